@@ -1,0 +1,4 @@
+pub mod Semiring
+pub mod Negation
+pub mod Power
+pub mod Sum
