@@ -3,3 +3,5 @@ pub mod Negation
 pub mod Power
 pub mod Sum
 pub mod Lists
+pub mod Remainder
+pub mod Prime
