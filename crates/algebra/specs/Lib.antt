@@ -5,3 +5,4 @@ pub mod Sum
 pub mod Lists
 pub mod Remainder
 pub mod Prime
+pub mod Binomial
