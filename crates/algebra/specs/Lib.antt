@@ -2,3 +2,4 @@ pub mod Semiring
 pub mod Negation
 pub mod Power
 pub mod Sum
+pub mod Series
