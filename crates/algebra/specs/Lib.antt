@@ -3,3 +3,4 @@ pub mod Negation
 pub mod Power
 pub mod Sum
 pub mod Series
+pub mod Agree
