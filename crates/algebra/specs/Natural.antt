@@ -4,7 +4,7 @@
 --   natural-0 natural-suc natural-1   its equations, and the number 1
 --   natural-+ natural-*   sums and products of numbers
 use Prim.Native.Nat.{ℕ, zero, suc, _+_, _*_}
-use mathlib.Core.Path.{_≡_, refl, _∙_}
+use mathlib.Core.Path.{_≡_, refl}
 use native.Mathlib.Nat.{add-suc, add-zero, mul-suc, mul-zero}
 use Rattle.algebra.specs.Semiring.{Semiring, 𝟘-⊕, ⊕-𝟘, ⊕-assoc, ⊗-𝟘, ⊗-𝟙, ⊗-⊕}
 
