@@ -4,3 +4,4 @@ pub mod Power
 pub mod Sum
 pub mod Series
 pub mod Agree
+pub mod Homomorphism
