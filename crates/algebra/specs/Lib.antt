@@ -9,3 +9,4 @@ pub mod Power
 pub mod Sum
 pub mod Series
 pub mod Agree
+pub mod Homomorphism

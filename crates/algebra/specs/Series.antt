@@ -5,6 +5,7 @@
 --
 --   Series A                  sequences of coefficients
 --   tail a                    the series with coefficient k + 1 of a at place k
+--   equal-by-tail             series are equal if their constant terms and their tails are
 --   shift R a                 the series with coefficient k of a at place k + 1
 --   constant R c              the series c
 --   indeterminate R           the series x
@@ -16,7 +17,8 @@
 --   constant-0 constant-suc   coefficients of a constant
 --   constant-⊠-at             coefficients of a constant times a series
 --   shift-0 shift-suc         coefficients of a shift
---   shift-⊠ indeterminate-⊠   the shift is the product with x, and moves out of a product
+--   shift-⊠                   a shift moves out of a product
+--   indeterminate-shift indeterminate-⊠   x is the shift of 𝟙, and the product with x is the shift
 --   decompose                 a series is its constant term plus x times its tail
 --   power-⊠-above power-⊠-below   coefficients of x^j times a series, from place j on and before it
 use Prim.Native.Nat.{ℕ, zero, suc, _+_, _-_, _<_}
@@ -46,6 +48,9 @@ Series A = ℕ → A
 
 abbrev pub tail : {A : Type 0} → Series A → Series A
 tail a k = a (suc k)
+
+pub equal-by-tail : {A : Type 0} {a b : Series A} → a 0 ≡ b 0 → ((k : ℕ) → tail a k ≡ tail b k) → a ≡ b
+equal-by-tail h t = fun-ext (elim [ zero ↦ h | suc k ↦ t k ])
 
 module _ {A : Type 0} (R : Semiring A) where
   open Semiring R using (𝟘, 𝟙, _⊕_, _⊗_)
@@ -187,22 +192,18 @@ module _ {A : Type 0} (R : Semiring A) where
 
   pub shift-⊠ : (a b : Series A) → shift a ⊠ b ≡ shift (a ⊠ b)
   unfolding shift
-  shift-⊠ a b = fun-ext λ k. at k
-    where
-      at : (k : ℕ) → (shift a ⊠ b) k ≡ shift (a ⊠ b) k
-      at zero = rw (⊠-0, 𝟘-⊗ R)
-      at (suc k) = rw (⊠-suc, 𝟘-⊗ R, 𝟘-⊕ R)
+  shift-⊠ a b = equal-by-tail (rw (⊠-0, 𝟘-⊗ R)) (λ k. rw (⊠-suc, 𝟘-⊗ R, 𝟘-⊕ R))
+
+  pub indeterminate-shift : indeterminate ≡ shift 𝟙ˢ
+  unfolding indeterminate series
+  indeterminate-shift = refl
 
   pub indeterminate-⊠ : (a : Series A) → indeterminate ⊠ a ≡ shift a
-  unfolding indeterminate
-  indeterminate-⊠ a = shift-⊠ (constant 𝟙) a ∙ ap shift (rw (← 𝟙-constant) (𝟙-⊗ series a))
+  indeterminate-⊠ a = rw (indeterminate-shift, shift-⊠, 𝟙-⊗ series)
 
   pub decompose : (a : Series A) → a ≡ constant (a 0) ⊞ indeterminate ⊠ tail a
-  decompose a = rw indeterminate-⊠ (fun-ext at)
-    where
-      at : (k : ℕ) → a k ≡ (constant (a 0) ⊞ shift (tail a)) k
-      at zero = rw (⊞-at, constant-0, shift-0, ⊕-𝟘 R)
-      at (suc k) = rw (⊞-at, constant-suc, shift-suc, 𝟘-⊕ R)
+  decompose a = rw indeterminate-⊠
+      (equal-by-tail (rw (⊞-at, constant-0, shift-0, ⊕-𝟘 R)) (λ k. rw (⊞-at, constant-suc, shift-suc, 𝟘-⊕ R)))
 
   pub power-⊠-above : (j : ℕ) (a : Series A) (k : ℕ) → (power series indeterminate j ⊠ a) (j + k) ≡ a k
   power-⊠-above zero a k = rw (power-0 series, 𝟙-⊗ series, zero-add)
