@@ -3,6 +3,10 @@ pub mod Remainder
 pub mod Prime
 pub mod Binomial
 pub mod Natural
+pub mod Residue
+pub mod Domain
+pub mod Frobenius
+pub mod Fermat
 pub mod Semiring
 pub mod Negation
 pub mod Power
