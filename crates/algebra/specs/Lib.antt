@@ -5,3 +5,4 @@ pub mod Sum
 pub mod Series
 pub mod Agree
 pub mod Homomorphism
+pub mod Evaluate

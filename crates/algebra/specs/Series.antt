@@ -22,7 +22,7 @@
 --   decompose                 a series is its constant term plus x times its tail
 --   power-⊠-above power-⊠-below   coefficients of x^j times a series, from place j on and before it
 use Prim.Native.Nat.{ℕ, zero, suc, _+_, _-_, _<_}
-use mathlib.Core.Path.{_≡_, refl, ap, ap₂, fun-ext, _∙_}
+use mathlib.Core.Path.{_≡_, refl, ap₂, fun-ext, _∙_}
 use native.Mathlib.Nat.{sub-zero, suc-add, suc-sub-suc, zero-add}
 use native.Mathlib.Omega.{arith}
 use Rattle.algebra.specs.Negation.{Negation}
