@@ -13,7 +13,7 @@
 --                         its coefficients, and its values at constants, at shifts and at x
 --   map-⊠                 φ at a coefficient of a product of series
 use Prim.Native.Nat.{ℕ, zero, suc}
-use mathlib.Core.Path.{_≡_, refl, sym, ap, fun-ext, _∙_}
+use mathlib.Core.Path.{_≡_, refl, sym, fun-ext, _∙_}
 use Rattle.algebra.specs.Negation.{Negation, neg-unique}
 use Rattle.algebra.specs.Power.{power, power-0, power-suc}
 use Rattle.algebra.specs.Semiring.{Semiring, ⊕-𝟘, ⊗-𝟘}

@@ -14,3 +14,5 @@ pub mod Sum
 pub mod Series
 pub mod Agree
 pub mod Homomorphism
+pub mod Evaluate
+pub mod Substitution
