@@ -24,6 +24,8 @@ use Rattle.definition.specs.Weight.{
   bernsteinLevels,
   bernsteinWeight,
   degreeBound,
+  halvingsFrom,
+  halvings,
   kinoshitaLiLevels,
   kinoshitaLiWeight,
   weight,
@@ -101,7 +103,7 @@ examples =
     ∷ []
 
 pub settled : Every examples
-unfolding sum tabulate coefficient ceilDiv productTerm product constant power substitutedTerm substituted composedAt composed blockLength partCount hornerWeight powerProducts joinProducts rangedProducts rangedWeight bernsteinLevels bernsteinWeight degreeBound kinoshitaLiLevels kinoshitaLiWeight weight lib.Count.ones lib.Count.onesIn lib.Count.leadingZeros indivisible isPrime largestModulus test first limit composeWork badRoute badModulus badOrder tooLong notPlaces exceeds irreversible composeRefusal reverseRefusal binomial shiftedTerm shifted leastPower valuation leadingAt leading identityAt identity
+unfolding sum tabulate coefficient ceilDiv productTerm product constant power substitutedTerm substituted composedAt composed blockLength partCount hornerWeight powerProducts joinProducts rangedProducts rangedWeight bernsteinLevels bernsteinWeight degreeBound halvingsFrom halvings kinoshitaLiLevels kinoshitaLiWeight weight lib.Count.ones lib.Count.onesIn lib.Count.leadingZeros indivisible isPrime largestModulus test first limit composeWork badRoute badModulus badOrder tooLong notPlaces exceeds irreversible composeRefusal reverseRefusal binomial shiftedTerm shifted leastPower valuation leadingAt leading identityAt identity
 settled =
     (refl, refl, refl)
     and (refl, refl, refl)
