@@ -10,23 +10,25 @@
 --   series-listed          the series of a list that was read off a series agrees with that series below n
 --   listed-series          a list of n numbers below p is read off its own series
 --   length-listed coefficient-listed   length and places of such a list
+--   residue-series l       the semiring of series over the residues
 --   scalars l              natural numbers as constant series
 --   value l f s            the polynomial f, a list of natural numbers, at a series s
 --   product-series power-series substituted-series   the sequences of the definitions are those of the algebra, over the natural numbers
 --   composed-listed cutProduct-listed hornerStep-listed cutPower-listed joined-listed   each list of the definitions, read off a series
 use Prim.Native.Nat.{ℕ, zero, suc, _+_, _-_, _*_, _%_, _<_}
-use mathlib.Core.List.{List, [], _∷_}
+use mathlib.Core.List.{List, _∷_, _++_}
 use mathlib.Core.Path.{_≡_, refl, sym, ap, fun-ext, _∙_}
 use lib.ListN.{length}
 use native.Mathlib.Decide.{Fin·val-path}
 use native.Mathlib.Nat.{mod-eq-of-lt}
-use Rattle.algebra.specs.Agree.{Agree}
-use Rattle.algebra.specs.Evaluate.{evaluate, evaluate-sum, map-evaluate}
+use native.Mathlib.Omega.{arith}
+use Rattle.algebra.specs.Agree.{Agree, agree-refl, agree-⊞, agree-⊠}
+use Rattle.algebra.specs.Evaluate.{evaluate, evaluate-∷, evaluate-++, evaluate-sum, map-evaluate}
 use Rattle.algebra.specs.Homomorphism.{Homomorphism, coefficients, coefficients-at, coefficients-constant, coefficientwise, composite, constants, map-power}
 use Rattle.algebra.specs.Lists.{tabulate-cong, coefficient-tabulate, length-tabulate, table-of, sum-naturals, sum-cong}
 use Rattle.algebra.specs.Power.{power-0, power-suc}
 use Rattle.algebra.specs.Power as Power
-use Rattle.algebra.specs.Residue.{Residue, residue, residue-value, residue-own, residues, reduction}
+use Rattle.algebra.specs.Residue.{Residue, residue, residue-value, residue-own, residue-+, residues, reduction}
 use Rattle.algebra.specs.Semiring.{Semiring, naturals, ⊗-comm}
 use Rattle.algebra.specs.Series.{Series, series, constant, constant-0, constant-suc, constant-⊠-at, 𝟙-constant, ⊞-at, ⊠-at, sum-at}
 use Rattle.algebra.specs.Sum as Sum
@@ -42,10 +44,10 @@ unfolding product productTerm
 product-series a b = fun-ext λ k. sum-naturals (suc k) (productTerm a b k) ∙ sym (⊠-at naturals a b k)
 
 pub constant-series : (c : ℕ) → Plain.constant c ≡ constant naturals c
+unfolding Plain.constant
 constant-series c = fun-ext at
   where
     at : (k : ℕ) → Plain.constant c k ≡ constant naturals c k
-    unfolding Plain.constant
     at zero = sym (constant-0 naturals c)
     at (suc k) = sym (constant-suc naturals c k)
 
@@ -53,4 +55,111 @@ pub power-series : (g : ℕ → ℕ) (i : ℕ) → power g i ≡ Power.power (se
 unfolding power
 power-series g zero = constant-series 1 ∙ sym (𝟙-constant naturals) ∙ sym (power-0 (series naturals) g)
 power-series g (suc i) =
-    product-series (power g i) g ∙ ?a
+    product-series (power g i) g ∙ rw (power-series g i, ⊗-comm (series naturals), ← power-suc (series naturals))
+
+pub substituted-series : (f g : List ℕ) → substituted f g ≡ evaluate (constants naturals) f (coefficient g)
+unfolding substituted substitutedTerm coefficient
+substituted-series f g = fun-ext λ k.
+    rw (evaluate-sum (constants naturals) f (coefficient g) (length f) (omega arith), sum-at naturals)
+    (sum-naturals (length f) (substitutedTerm f g k)
+    ∙ Sum.sum-cong naturals (length f) _ _ (λ i b. rw (constant-⊠-at naturals, power-series)))
+
+module _ {p : ℕ} where
+  pub listed : ℕ → Series (Residue p) → List ℕ
+  listed n s = tabulate n (λ k. s k .0)
+
+  pub length-listed : (n : ℕ) (s : Series (Residue p)) → length (listed n s) ≡ n
+  unfolding listed
+  length-listed n s = length-tabulate n (λ k. s k .0)
+
+  pub coefficient-listed : (n : ℕ) (s : Series (Residue p)) (k : ℕ) → k < n → coefficient (listed n s) k ≡ s k .0
+  unfolding listed
+  coefficient-listed n s k b = coefficient-tabulate n (λ k. s k .0) k b
+
+  pub listed-agree : {n : ℕ} {s t : Series (Residue p)} → Agree n s t → listed n s ≡ listed n t
+  unfolding listed
+  listed-agree {n} {s} {t} h = tabulate-cong n (λ k. s k .0) (λ k. t k .0) (λ k b. ap (λ r. r .0) (h k b))
+
+  pub agree-listed : {n : ℕ} (s t : Series (Residue p)) → listed n s ≡ listed n t → Agree n s t
+  agree-listed {n} s t e k b =
+      Fin·val-path (sym (coefficient-listed n s k b) ∙ ap (λ xs. coefficient xs k) e ∙ coefficient-listed n t k b)
+
+module _ {p : ℕ} (l : 0 < p) where
+  abbrev pub reduced : (ℕ → ℕ) → Series (Residue p)
+  reduced = coefficients (reduction l)
+
+  abbrev pub series-of : List ℕ → Series (Residue p)
+  series-of xs = reduced (coefficient xs)
+
+  abbrev pub residue-series : Semiring (Series (Residue p))
+  residue-series = series (residues l)
+
+  abbrev pub scalars : Homomorphism naturals residue-series
+  scalars = composite (constants (residues l)) (reduction l)
+
+  abbrev pub value : List ℕ → Series (Residue p) → Series (Residue p)
+  value f s = evaluate scalars f s
+
+  open Semiring residue-series using (_⊕_ as _⊞_, _⊗_ as _⊠_)
+
+  pub series-listed : (n : ℕ) (s : Series (Residue p)) → Agree n (series-of (listed n s)) s
+  series-listed n s k b = rw (coefficients-at (reduction l), coefficient-listed n s k b) (residue-own l (s k))
+
+  pub listed-series : (n : ℕ) (xs : List ℕ) → length xs ≡ n → ((k : ℕ) → k < n → coefficient xs k < p) → listed n (series-of xs) ≡ xs
+  unfolding listed
+  listed-series n xs e h = sym (table-of n (λ k. series-of xs k .0) xs e (λ k b. rw (coefficients-at (reduction l), residue-value l, mod-eq-of-lt (h k b))))
+
+  -- a table of remainders is read off the series of the residues
+  pub reduced-listed : (n : ℕ) (a : ℕ → ℕ) → tabulate n (λ k. a k % p) ≡ listed n (reduced a)
+  unfolding listed
+  reduced-listed n a = tabulate-cong n (λ k. a k % p) (λ k. reduced a k .0) (λ k b. rw (coefficients-at (reduction l), residue-value l))
+
+  reduced-⊠ : (a b : ℕ → ℕ) → reduced (product a b) ≡ reduced a ⊠ reduced b
+  reduced-⊠ a b = rw (product-series a b) (coefficientwise (reduction l) .map-⊗ a b)
+
+  reduced-⊞ : (a b : ℕ → ℕ) → reduced (λ k. a k + b k) ≡ reduced a ⊞ reduced b
+  reduced-⊞ a b = fun-ext λ k. simp (coefficients-at (reduction l), ⊞-at (residues l), residue-+ l)
+
+  reduced-value : (f g : List ℕ) → reduced (substituted f g) ≡ value f (series-of g)
+  reduced-value f g =
+      rw (substituted-series f g)
+      (map-evaluate (coefficientwise (reduction l)) (constants naturals) scalars (coefficients-constant (reduction l)) f (coefficient g))
+
+  reduced-power : (g : List ℕ) (e : ℕ) → reduced (power (coefficient g) e) ≡ Power.power residue-series (series-of g) e
+  reduced-power g e = rw (power-series (coefficient g) e) (map-power (coefficientwise (reduction l)) (coefficient g) e)
+
+  pub composed-listed : (n : ℕ) (f g : List ℕ) → composed p n f g ≡ listed n (value f (series-of g))
+  unfolding composed composedAt
+  composed-listed n f g = reduced-listed n (substituted f g) ∙ ap (listed n) (reduced-value f g)
+
+  pub cutProduct-listed : (n : ℕ) (a b : List ℕ) → cutProduct p n a b ≡ listed n (series-of a ⊠ series-of b)
+  unfolding cutProduct cutProductAt
+  cutProduct-listed n a b = reduced-listed n (product (coefficient a) (coefficient b)) ∙ ap (listed n) (reduced-⊠ (coefficient a) (coefficient b))
+
+  pub cutPower-listed : (n : ℕ) (g : List ℕ) (e : ℕ) → cutPower p n g e ≡ listed n (Power.power residue-series (series-of g) e)
+  unfolding cutPower cutPowerAt
+  cutPower-listed n g e = reduced-listed n (power (coefficient g) e) ∙ ap (listed n) (reduced-power g e)
+
+  pub hornerStep-listed : (n c : ℕ) (s g : List ℕ) → hornerStep p n c s g ≡ listed n (scalars .map c ⊞ series-of s ⊠ series-of g)
+  unfolding hornerStep hornerStepAt
+  hornerStep-listed n c s g = reduced-listed n (λ k. Plain.constant c k + product (coefficient s) (coefficient g) k) ∙ ap (listed n) (rw (reduced-⊞ (Plain.constant c) (product (coefficient s) (coefficient g)), reduced-⊠, constant-series c, coefficients-constant (reduction l)))
+
+  pub joined-listed : (n : ℕ) (s t u : List ℕ) → joined p n s t u ≡ listed n (series-of s ⊞ series-of t ⊠ series-of u)
+  unfolding joined joinedAt
+  joined-listed n s t u = reduced-listed n (λ k. coefficient s k + product (coefficient t) (coefficient u) k) ∙ ap (listed n) (rw (reduced-⊞ (coefficient s) (product (coefficient t) (coefficient u)), reduced-⊠))
+
+  -- the two laws on which routes 1 and 2 stand
+
+  series-composed : (n : ℕ) (f g : List ℕ) → Agree n (series-of (composed p n f g)) (value f (series-of g))
+  series-composed n f g = rw (composed-listed n f g) (series-listed n (value f (series-of g)))
+
+  pub composed-∷ : (n c : ℕ) (f g : List ℕ) → hornerStep p n c (composed p n f g) g ≡ composed p n (c ∷ f) g
+  composed-∷ n c f g =
+      rw (hornerStep-listed, composed-listed n (c ∷ f) g, evaluate-∷ scalars, ⊗-comm residue-series (series-of g))
+      (listed-agree (agree-⊞ (residues l) (agree-refl (scalars .map c)) (agree-⊠ (residues l) (series-composed n f g) (agree-refl (series-of g)))))
+
+  pub composed-++ : (n : ℕ) (f h g : List ℕ)
+      → joined p n (composed p n f g) (composed p n h g) (cutPower p n g (length f)) ≡ composed p n (f ++ h) g
+  composed-++ n f h g =
+      rw (joined-listed, composed-listed n (f ++ h) g, evaluate-++ scalars, ⊗-comm residue-series (Power.power residue-series (series-of g) (length f)))
+      (listed-agree (agree-⊞ (residues l) (series-composed n f g) (agree-⊠ (residues l) (series-composed n h g) (rw (cutPower-listed n g (length f)) (series-listed n (Power.power residue-series (series-of g) (length f)))))))
