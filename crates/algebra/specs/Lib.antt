@@ -7,6 +7,8 @@ pub mod Residue
 pub mod Domain
 pub mod Frobenius
 pub mod Fermat
+pub mod Spread
+pub mod Parts
 pub mod Semiring
 pub mod Negation
 pub mod Power
