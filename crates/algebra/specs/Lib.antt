@@ -9,6 +9,8 @@ pub mod Frobenius
 pub mod Fermat
 pub mod Spread
 pub mod Parts
+pub mod Taylor
+pub mod Vanishing
 pub mod Semiring
 pub mod Negation
 pub mod Power
