@@ -1,13 +1,14 @@
 -- Commutative rings: a semiring together with a negation. Assumes nothing.
 --
---   Negation R        a negation `neg` over the semiring R
---   ⊕-neg neg-⊕-self  a ⊕ neg a and neg a ⊕ a are 𝟘
---   ⊕-cancel          what stands beside the same summand is equal if the sums are
---   neg-unique        b is neg a if a ⊕ b is 𝟘
+--   Negation R            a negation `neg` over the semiring R
+--   ⊕-neg neg-⊕-self      a ⊕ neg a and neg a ⊕ a are 𝟘
+--   ⊕-neg-cancel neg-⊕-cancel   a ⊕ (neg a ⊕ b) and neg a ⊕ (a ⊕ b) are b
+--   ⊕-cancel              b is c if a ⊕ b is a ⊕ c
+--   neg-unique            b is neg a if a ⊕ b is 𝟘
 --   equal-by-difference   a is b if a ⊕ neg b is 𝟘
 --   neg-𝟘 neg-neg neg-⊕   negation is an involution that keeps sums
 --   neg-⊗ ⊗-neg           a sign moves out of a product
---   signed            the set of these laws, for `simp (ring, signed)`
+--   signed                the set of these laws: `simp (ring, signed)` also cancels a beside neg a
 use mathlib.Core.Path.{_≡_, sym, ap, _∙_}
 use Rattle.algebra.specs.Semiring.{Semiring, ⊕-assoc, ⊕-comm, 𝟘-⊕}
 use Rattle.algebra.specs.Semiring.{𝟘-⊗, ⊕-⊗, ⊗-comm, ⊕-interchange}
