@@ -18,7 +18,20 @@ use Rattle.algebra.specs.Natural.{map-natural}
 use Rattle.algebra.specs.Power.{power, power-suc}
 use Rattle.algebra.specs.Prime.{euclid, prime-positive}
 use Rattle.algebra.specs.Remainder.{mod-mul-mod, mul-mod-mod}
-use Rattle.algebra.specs.Residue.{Residue, residue, residues, residues-negation, residue-1, residue-*, residue-power, residue-equal, residue-own, natural-residue, residue-zero, residues-characteristic}
+use Rattle.algebra.specs.Residue.{
+  Residue,
+  residue,
+  residues,
+  residues-negation,
+  residue-1,
+  residue-*,
+  residue-power,
+  residue-equal,
+  residue-own,
+  natural-residue,
+  residue-zero,
+  residues-characteristic,
+}
 use Rattle.algebra.specs.Semiring.{Semiring, ⊗-𝟙}
 use Rattle.definition.specs.Prime.{Prime}
 

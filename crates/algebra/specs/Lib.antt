@@ -11,6 +11,7 @@ pub mod Spread
 pub mod Parts
 pub mod Taylor
 pub mod Vanishing
+pub mod Valuation
 pub mod Semiring
 pub mod Negation
 pub mod Power

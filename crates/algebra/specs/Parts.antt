@@ -19,9 +19,15 @@ use native.Mathlib.Omega.{arith, by-contra}
 use Rattle.algebra.specs.Agree.{Agree, agree-refl, agree-sum, agree-⊠}
 use Rattle.algebra.specs.Evaluate.{evaluate, evaluate-[], evaluate-cong, evaluate-sum, map-evaluate}
 use Rattle.algebra.specs.Homomorphism.{Homomorphism, composite, constants}
-use Rattle.algebra.specs.Lists.{ceilDiv-count, ceilDiv-covers, coefficient-beyond, coefficient-tabulate, length-tabulate, tabulate-beyond}
+use Rattle.algebra.specs.Lists.{
+  ceilDiv-count,
+  ceilDiv-covers,
+  coefficient-beyond,
+  coefficient-tabulate,
+  length-tabulate,
+  tabulate-beyond,
+}
 use Rattle.algebra.specs.Power.{power, power-+, power-*}
-use Rattle.algebra.specs.Residue.{residues}
 use Rattle.algebra.specs.Semiring.{Semiring, naturals, ⊕-𝟘, ⊗-𝟘, ⊗-left-comm}
 use Rattle.algebra.specs.Series.{Series, series}
 use Rattle.algebra.specs.Spread.{spread, spreading, spread-agree, spread-constant}
@@ -40,8 +46,8 @@ sum-beyond R q n f u h =
     let (r, e) = le-dest u in
     rw (← e, sum-+ R, sum-𝟘 R r (λ i. f (q + i)) (λ i v. h (q + i) (omega arith) (omega arith)), ⊕-𝟘 R)
 
-pub evaluate-coefficients : {B : Type 0} {S : Semiring B} (φ : Homomorphism naturals S) (f : List ℕ) (s : B) (n : ℕ) → length f ≤ n
-    → evaluate φ f s ≡ sum S n (λ i. S ._⊗_ (φ .map (coefficient f i)) (power S s i))
+pub evaluate-coefficients : {B : Type 0} {S : Semiring B} (φ : Homomorphism naturals S) (f : List ℕ) (s : B) (n : ℕ)
+    → length f ≤ n → evaluate φ f s ≡ sum S n (λ i. S ._⊗_ (φ .map (coefficient f i)) (power S s i))
 unfolding coefficient
 evaluate-coefficients φ f s n l = evaluate-sum φ f s n l
 
@@ -62,8 +68,10 @@ module _ {p : ℕ} (l : 0 < p) where
 
   part-length : (j : ℕ) (f : List ℕ) → length (part p j f) ≤ ceilDiv (length f) p
   unfolding part
-  part-length j f = rw length-tabulate (by-contra _ _ (λ b.
-      omega (arith, partCount-below (length f) j (ceilDiv (length f) p) .0 b, ceilDiv-covers l (length f), mul-comm p (ceilDiv (length f) p))))
+  part-length j f =
+      let c : ℕ = ceilDiv (length f) p in
+      rw length-tabulate (by-contra (partCount p j (length f)) c (λ b.
+      omega (arith, partCount-below (length f) j c .0 b, ceilDiv-covers l (length f), mul-comm p c)))
 
   module _ {B : Type 0} {S : Semiring B} (φ : Homomorphism naturals S) (s : B) where
     open Semiring S using (𝟘, _⊕_, _⊗_)
@@ -89,7 +97,7 @@ module _ {p : ℕ} (l : 0 < p) where
         ∙ sum-cong S p _ (λ j. power S s j ⊗ evaluate φ (part p j f) (power S s p)) (λ j v. part-sum j f)
         ∙ sum-beyond S q p _ u (λ j v w. rw (part-beyond j f (power S s p) (omega arith), ⊗-𝟘 S))
 
--- coefficients in a semiring R over which the p-th power of a series spreads it: the residues modulo a prime p, by `residues-power-spread`
+-- over a semiring R where the p-th power of a series spreads it, as over the residues modulo a prime p by `residues-power-spread`
 module _ {A : Type 0} (R : Semiring A) (φ : Homomorphism naturals R) {p : ℕ} (l : 0 < p)
     (frobenius : (g : Series A) → power (series R) g p ≡ spread R p g) where
   open Semiring (series R) using (_⊗_ as _⊠_)

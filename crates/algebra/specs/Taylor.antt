@@ -1,30 +1,30 @@
 -- Taylor's formula: f(c + u) is the sum of F_i u^i, with F_i the coefficient i of f in powers of (z - c). Assumes nothing.
 --
---   shifted-beyond      F_i is 0 from the length of f on
 --   map-shifted         the image of F_i under a homomorphism
 --   taylor              f(c + u) is the sum of F_i u^i over i < n, for every n from the length of f on
-use Prim.Native.Nat.{ℕ, zero, suc, _+_, _-_, _*_, _^_, _<_, _≤_}
+use Prim.Native.Nat.{ℕ, suc, _-_, _<_, _≤_}
 use mathlib.Core.List.{List}
-use mathlib.Core.Path.{_≡_, refl, sym, ap, _∙_}
-use lib.ListN.{getD, length}
-use native.Mathlib.Nat.{le-refl, mul-zero}
+use mathlib.Core.Path.{_≡_, sym, _∙_}
+use lib.ListN.{length}
+use native.Mathlib.Nat.{le-refl}
 use native.Mathlib.Omega.{arith}
 use Rattle.algebra.specs.Binomial.{binomial-above, binomial-term, binomial-term-at, binomial-theorem}
-use Rattle.algebra.specs.Evaluate.{evaluate, evaluate-sum}
+use Rattle.algebra.specs.Evaluate.{evaluate}
 use Rattle.algebra.specs.Homomorphism.{Homomorphism, map-sum, map-power}
 use Rattle.algebra.specs.Lists.{sum-naturals}
 use Rattle.algebra.specs.Natural.{natural, natural-0, natural-along, power-naturals}
 use Rattle.algebra.specs.Parts.{evaluate-coefficients, sum-beyond}
 use Rattle.algebra.specs.Power.{power}
 use Rattle.algebra.specs.Semiring.{Semiring, naturals, ring, ⊗-assoc, ⊕-comm, 𝟘-⊗}
-use Rattle.algebra.specs.Sum.{sum, sum-𝟘, sum-cong, sum-exchange, ⊗-sum, sum-⊗}
+use Rattle.algebra.specs.Sum.{sum, sum-cong, sum-exchange, ⊗-sum, sum-⊗}
 use Rattle.definition.specs.Lists.{coefficient}
 use Rattle.definition.specs.Taylor.{binomial, shifted, shiftedTerm}
 
 module _ {B : Type 0} {S : Semiring B} (φ : Homomorphism naturals S) (f : List ℕ) (c : ℕ) where
   open Semiring S using (𝟘, _⊕_, _⊗_)
 
-  map-term : (i j : ℕ) → φ .map (shiftedTerm f c i j) ≡ φ .map (coefficient f j) ⊗ (power S (φ .map c) (j - i) ⊗ natural S (binomial j i))
+  map-term : (i j : ℕ) → φ .map (shiftedTerm f c i j)
+      ≡ φ .map (coefficient f j) ⊗ (power S (φ .map c) (j - i) ⊗ natural S (binomial j i))
   unfolding shiftedTerm
   map-term i j =
       rw (φ .map-⊗, φ .map-⊗, ← power-naturals c (j - i), map-power φ, natural-along φ (binomial j i), ⊗-assoc S)

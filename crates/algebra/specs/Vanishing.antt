@@ -1,5 +1,5 @@
--- When two polynomials in one series agree below a place: over a ring without zero divisors, D(u) vanishes below n exactly when D_i is 𝟘
--- for all i with i v < n, where v > 0 is the least place at which u is not 𝟘, or n. Assumes nothing.
+-- When two polynomials in one series agree below a place. Over a ring without zero divisors, D(u) vanishes below n exactly when
+-- D_i is 𝟘 for all i with i v < n, where v > 0 is the least place at which u is not 𝟘, or n if u vanishes below n. Assumes nothing.
 --
 --   ⊠-lowest            the first coefficient of a product
 --   power-lowest        the first coefficient of a power
@@ -7,11 +7,12 @@
 --   combination-at      its coefficients
 --   vanishing           when a combination vanishes below n
 --   agreement           when two combinations agree below n
---   taylor-agreement    when f(c + u) and h(c + u) agree below n: when their coefficients in powers of (z - c) do, for all i with i v < n
+--   taylor-agreement    when f(c + u) and h(c + u) agree below n: when f and h have the same coefficients i in powers of (z - c),
+--                       for all i with i v < n
 use Prim.Native.Nat.{ℕ, zero, suc, _+_, _-_, _*_, _<_, _≤_}
 use mathlib.Core.List.{List}
 use mathlib.Core.Logic.{_↔_, _≢_}
-use mathlib.Core.Path.{_≡_, sym, ap, ap₂, _∙_}
+use mathlib.Core.Path.{_≡_, sym, ap, _∙_}
 use lib.ListN.{length}
 use native.Mathlib.Decide.{decLt}
 use native.Mathlib.Nat.{add-comm, add-sub-cancel-left, le-of-lt, mul-le-mul-right, mul-lt-mul-of-pos-right, suc-mul, zero-mul}
@@ -20,7 +21,7 @@ use Rattle.algebra.specs.Agree.{Agree, Vanish, vanish-power}
 use Rattle.algebra.specs.Domain.{NoZeroDivisors, power-nonzero}
 use Rattle.algebra.specs.Evaluate.{evaluate}
 use Rattle.algebra.specs.Homomorphism.{Homomorphism, composite, constants}
-use Rattle.algebra.specs.Negation.{Negation, ⊕-neg, ⊕-cancel, equal-by-difference}
+use Rattle.algebra.specs.Negation.{Negation, ⊕-neg, ⊕-cancel}
 use Rattle.algebra.specs.Power.{power, power-0, power-suc}
 use Rattle.algebra.specs.Semiring.{Semiring, naturals, ⊕-left-comm, ⊕-𝟘, 𝟘-⊗, ⊗-𝟘, ⊗-𝟙, ⊗-comm, ⊕-⊗}
 use Rattle.algebra.specs.Series.{Series, series, constant, constant-⊠-at, ⊠-at, 𝟙-constant, constant-0, sum-at}
@@ -47,7 +48,8 @@ module _ {A : Type 0} (R : Semiring A) where
   pub power-lowest : (v : ℕ) {u : Series A} → Vanish R v u → (i : ℕ) → power (series R) u i (i * v) ≡ power R (u v) i
   power-lowest v h zero = rw (zero-mul, power-0 (series R), power-0 R, 𝟙-constant R) (constant-0 R 𝟙)
   power-lowest v h (suc i) =
-      rw (suc-mul, add-comm (i * v) v, power-suc (series R), power-suc R, ⊠-lowest v (i * v) h (vanish-power R v i h), power-lowest v h i)
+      rw (suc-mul, add-comm (i * v) v, power-suc (series R), power-suc R, ← power-lowest v h i)
+      (⊠-lowest v (i * v) h (vanish-power R v i h))
 
   abbrev pub combination : ℕ → (ℕ → A) → Series A → Series A
   combination m d u = sum (series R) m (λ i. constant R (d i) ⊠ power (series R) u i)
@@ -56,7 +58,8 @@ module _ {A : Type 0} (R : Semiring A) where
       → combination m d u k ≡ sum R m (λ i. d i ⊗ power (series R) u i k)
   combination-at m d u k = rw (sum-at R) (simp (constant-⊠-at R))
 
-  module _ (domain : NoZeroDivisors R) {n v : ℕ} (u : Series A) (l : 0 < v) (low : Vanish R v u) (first : v < n → u v ≢ 𝟘) (m : ℕ) where
+  module _ (domain : NoZeroDivisors R) {n v : ℕ} (u : Series A)
+      (l : 0 < v) (low : Vanish R v u) (first : v < n → u v ≢ 𝟘) (m : ℕ) where
     cancel : (i : ℕ) → i * v < n → (a : A) → a ⊗ power R (u v) i ≡ 𝟘 → a ≡ 𝟘
     cancel zero b a e = rw (power-0 R, ⊗-𝟙 R) at e
     cancel (suc i) b a e =
@@ -95,31 +98,27 @@ module _ {A : Type 0} (R : Semiring A) where
         at h k b i s (no w) = rw (vanish-power R v i low k (omega arith), ⊗-𝟘 R)
 
     module _ (N : Negation R) where
-      open Negation N using (neg)
+      -- a sum is its first term exactly when the second is 𝟘
+      excess : {a b d : A} → a ≡ b ⊕ d → (a ≡ b) ↔ (d ≡ 𝟘)
+      excess {b} e = ((λ h. ⊕-cancel R N b (sym e ∙ h ∙ sym (⊕-𝟘 R b))), (λ h. e ∙ rw (h, ⊕-𝟘 R)))
 
-      pub agreement : (a b : ℕ → A) → Agree n (combination m a u) (combination m b u) ↔ ((i : ℕ) → i < m → i * v < n → a i ≡ b i)
+      pub agreement : (a b : ℕ → A)
+          → Agree n (combination m a u) (combination m b u) ↔ ((i : ℕ) → i < m → i * v < n → a i ≡ b i)
       agreement a b = (
-        (λ h i s t. equal-by-difference R N (a i) (b i) (vanishing difference .0 (λ k c.
-            ⊕-cancel R N (combination m b u k) (sym (difference-at k) ∙ h k c ∙ sym (⊕-𝟘 R (combination m b u k)))) i s t)),
-        (λ h k c.
-            difference-at k
-            ∙ ap (λ w. combination m b u k ⊕ w) (vanishing difference .1 (λ i s t. ap (λ w. w ⊕ neg (b i)) (h i s t) ∙ ⊕-neg R N (b i)) k c)
-            ∙ ⊕-𝟘 R (combination m b u k)),
+        (λ h i s t. excess (split i) .1 (vanishing difference .0 (λ k c. excess (split-at k) .0 (h k c)) i s t)),
+        (λ h k c. excess (split-at k) .1 (vanishing difference .1 (λ i s t. excess (split i) .0 (h i s t)) k c)),
       )
         where
           difference : ℕ → A
-          difference i = a i ⊕ neg (b i)
+          difference i = a i ⊕ N .neg (b i)
 
           split : (i : ℕ) → a i ≡ b i ⊕ difference i
-          split i = sym (⊕-left-comm R (b i) (a i) (neg (b i)) ∙ rw (⊕-neg R N, ⊕-𝟘 R))
+          split i = sym (⊕-left-comm R (b i) (a i) (N .neg (b i)) ∙ rw (⊕-neg R N, ⊕-𝟘 R))
 
-          difference-at : (k : ℕ) → combination m a u k ≡ combination m b u k ⊕ combination m difference u k
-          difference-at k =
-              combination-at m a u k
-              ∙ sum-cong R m _ (λ i. b i ⊗ power (series R) u i k ⊕ difference i ⊗ power (series R) u i k)
-              (λ i s. ap (λ w. w ⊗ power (series R) u i k) (split i) ∙ ⊕-⊗ R (b i) (difference i) (power (series R) u i k))
-              ∙ sum-⊕ R m (λ i. b i ⊗ power (series R) u i k) (λ i. difference i ⊗ power (series R) u i k)
-              ∙ sym (ap₂ _⊕_ (combination-at m b u k) (combination-at m difference u k))
+          split-at : (k : ℕ) → combination m a u k ≡ combination m b u k ⊕ combination m difference u k
+          split-at k =
+              rw (combination-at m a u k, combination-at m b u k, combination-at m difference u k, ← sum-⊕ R)
+              (sum-cong R m _ _ (λ i s. ap (λ w. w ⊗ power (series R) u i k) (split i) ∙ ⊕-⊗ R (b i) (difference i) (power (series R) u i k)))
 
 module _ {A : Type 0} (R : Semiring A) (N : Negation R) (domain : NoZeroDivisors R) (φ : Homomorphism naturals R) (c : ℕ)
     {n v : ℕ} (u : Series A) (l : 0 < v) (low : Vanish R v u) (first : v < n → u v ≢ R .𝟘) where
