@@ -15,25 +15,31 @@
 --   value l f s            the polynomial f, a list of natural numbers, at a series s
 --   product-series power-series substituted-series   the sequences of the definitions are those of the algebra, over the natural numbers
 --   composed-listed cutProduct-listed hornerStep-listed cutPower-listed joined-listed   each list of the definitions, read off a series
-use Prim.Native.Nat.{ℕ, zero, suc, _+_, _-_, _*_, _%_, _<_}
-use mathlib.Core.List.{List, _∷_, _++_}
+use Prim.Native.Nat.{ℕ, zero, suc, _+_, _/_, _%_, _<_}
+use lib.Dec.{eqb}
+use mathlib.Core.Bool.{Bool, true, false, cond}
+use mathlib.Core.List.{List}
 use mathlib.Core.Path.{_≡_, refl, sym, ap, fun-ext, _∙_}
 use lib.ListN.{length}
 use native.Mathlib.Decide.{Fin·val-path}
 use native.Mathlib.Nat.{mod-eq-of-lt}
 use native.Mathlib.Omega.{arith}
-use Rattle.algebra.specs.Agree.{Agree, agree-refl, agree-⊞, agree-⊠}
-use Rattle.algebra.specs.Evaluate.{evaluate, evaluate-∷, evaluate-++, evaluate-sum, map-evaluate}
-use Rattle.algebra.specs.Homomorphism.{Homomorphism, coefficients, coefficients-at, coefficients-constant, coefficientwise, composite, constants, map-power}
+use Rattle.algebra.specs.Agree.{Agree}
+use Rattle.algebra.specs.Evaluate.{evaluate, evaluate-sum, map-evaluate}
+use Rattle.algebra.specs.Homomorphism.{Homomorphism, coefficients, coefficients-at, coefficients-constant, coefficients-indeterminate, coefficientwise, composite, constants, map-power}
 use Rattle.algebra.specs.Lists.{tabulate-cong, coefficient-tabulate, length-tabulate, table-of, sum-naturals, sum-cong}
 use Rattle.algebra.specs.Power.{power-0, power-suc}
 use Rattle.algebra.specs.Power as Power
-use Rattle.algebra.specs.Residue.{Residue, residue, residue-value, residue-own, residue-+, residues, reduction}
+use Rattle.algebra.specs.Residue.{Residue, residue-value, residue-own, residue-+, residues, reduction}
 use Rattle.algebra.specs.Semiring.{Semiring, naturals, ⊗-comm}
-use Rattle.algebra.specs.Series.{Series, series, constant, constant-0, constant-suc, constant-⊠-at, 𝟙-constant, ⊞-at, ⊠-at, sum-at}
+use Rattle.algebra.specs.Series.{Series, series, constant, indeterminate, indeterminate-0, indeterminate-shift, shift-suc, equal-by-tail, constant-0, constant-suc, constant-⊠-at, 𝟙-constant, ⊞-at, ⊠-at, sum-at}
+use Rattle.algebra.specs.Spread.{spread, spread-naturals, coefficients-spread}
 use Rattle.algebra.specs.Sum as Sum
-use Rattle.definition.specs.Lists.{sum, tabulate, coefficient}
+use Rattle.definition.specs.Bernstein as Bernstein
+use Rattle.definition.specs.Bernstein.{spreadList}
+use Rattle.definition.specs.Lists.{tabulate, coefficient}
 use Rattle.definition.specs.Ranged.{cutPowerAt, cutPower, joinedAt, joined}
+use Rattle.definition.specs.Reversion.{identity, identityAt}
 use Rattle.definition.specs.Substitution as Plain
 use Rattle.definition.specs.Substitution.{productTerm, product, power, substitutedTerm, substituted, composedAt, composed, cutProductAt, cutProduct, hornerStepAt, hornerStep}
 
@@ -50,6 +56,10 @@ constant-series c = fun-ext at
     at : (k : ℕ) → Plain.constant c k ≡ constant naturals c k
     at zero = sym (constant-0 naturals c)
     at (suc k) = sym (constant-suc naturals c k)
+
+pub identity-series : identityAt ≡ indeterminate naturals
+unfolding identityAt
+identity-series = equal-by-tail (sym (indeterminate-0 naturals)) (λ k. rw (constant-series 1, indeterminate-shift naturals, shift-suc naturals, 𝟙-constant naturals))
 
 pub power-series : (g : ℕ → ℕ) (i : ℕ) → power g i ≡ Power.power (series naturals) g i
 unfolding power
@@ -105,14 +115,20 @@ module _ {p : ℕ} (l : 0 < p) where
   pub series-listed : (n : ℕ) (s : Series (Residue p)) → Agree n (series-of (listed n s)) s
   series-listed n s k b = rw (coefficients-at (reduction l), coefficient-listed n s k b) (residue-own l (s k))
 
-  pub listed-series : (n : ℕ) (xs : List ℕ) → length xs ≡ n → ((k : ℕ) → k < n → coefficient xs k < p) → listed n (series-of xs) ≡ xs
+  -- a table of numbers below p is read off the series of their residues
+  pub small-listed : (n : ℕ) (a : ℕ → ℕ) → ((k : ℕ) → k < n → a k < p) → tabulate n a ≡ listed n (reduced a)
   unfolding listed
-  listed-series n xs e h = sym (table-of n (λ k. series-of xs k .0) xs e (λ k b. rw (coefficients-at (reduction l), residue-value l, mod-eq-of-lt (h k b))))
+  small-listed n a h =
+      tabulate-cong n a (λ k. reduced a k .0) (λ k b. rw (coefficients-at (reduction l), residue-value l, mod-eq-of-lt (h k b)))
+
+  pub listed-series : (n : ℕ) (xs : List ℕ) → length xs ≡ n → ((k : ℕ) → k < n → coefficient xs k < p) → listed n (series-of xs) ≡ xs
+  listed-series n xs e h = sym (table-of n (coefficient xs) xs e (λ k b. refl) ∙ small-listed n (coefficient xs) h)
 
   -- a table of remainders is read off the series of the residues
   pub reduced-listed : (n : ℕ) (a : ℕ → ℕ) → tabulate n (λ k. a k % p) ≡ listed n (reduced a)
   unfolding listed
-  reduced-listed n a = tabulate-cong n (λ k. a k % p) (λ k. reduced a k .0) (λ k b. rw (coefficients-at (reduction l), residue-value l))
+  reduced-listed n a =
+      tabulate-cong n (λ k. a k % p) (λ k. reduced a k .0) (λ k b. rw (coefficients-at (reduction l), residue-value l))
 
   reduced-⊠ : (a b : ℕ → ℕ) → reduced (product a b) ≡ reduced a ⊠ reduced b
   reduced-⊠ a b = rw (product-series a b) (coefficientwise (reduction l) .map-⊗ a b)
@@ -134,7 +150,8 @@ module _ {p : ℕ} (l : 0 < p) where
 
   pub cutProduct-listed : (n : ℕ) (a b : List ℕ) → cutProduct p n a b ≡ listed n (series-of a ⊠ series-of b)
   unfolding cutProduct cutProductAt
-  cutProduct-listed n a b = reduced-listed n (product (coefficient a) (coefficient b)) ∙ ap (listed n) (reduced-⊠ (coefficient a) (coefficient b))
+  cutProduct-listed n a b =
+      reduced-listed n (product (coefficient a) (coefficient b)) ∙ ap (listed n) (reduced-⊠ (coefficient a) (coefficient b))
 
   pub cutPower-listed : (n : ℕ) (g : List ℕ) (e : ℕ) → cutPower p n g e ≡ listed n (Power.power residue-series (series-of g) e)
   unfolding cutPower cutPowerAt
@@ -142,24 +159,40 @@ module _ {p : ℕ} (l : 0 < p) where
 
   pub hornerStep-listed : (n c : ℕ) (s g : List ℕ) → hornerStep p n c s g ≡ listed n (scalars .map c ⊞ series-of s ⊠ series-of g)
   unfolding hornerStep hornerStepAt
-  hornerStep-listed n c s g = reduced-listed n (λ k. Plain.constant c k + product (coefficient s) (coefficient g) k) ∙ ap (listed n) (rw (reduced-⊞ (Plain.constant c) (product (coefficient s) (coefficient g)), reduced-⊠, constant-series c, coefficients-constant (reduction l)))
+  hornerStep-listed n c s g =
+      reduced-listed n (λ k. Plain.constant c k + product (coefficient s) (coefficient g) k)
+      ∙ ap (listed n)
+      (rw (reduced-⊞ (Plain.constant c) (product (coefficient s) (coefficient g)), reduced-⊠, constant-series c, coefficients-constant (reduction l)))
 
   pub joined-listed : (n : ℕ) (s t u : List ℕ) → joined p n s t u ≡ listed n (series-of s ⊞ series-of t ⊠ series-of u)
   unfolding joined joinedAt
-  joined-listed n s t u = reduced-listed n (λ k. coefficient s k + product (coefficient t) (coefficient u) k) ∙ ap (listed n) (rw (reduced-⊞ (coefficient s) (product (coefficient t) (coefficient u)), reduced-⊠))
+  joined-listed n s t u =
+      reduced-listed n (λ k. coefficient s k + product (coefficient t) (coefficient u) k)
+      ∙ ap (listed n) (rw (reduced-⊞ (coefficient s) (product (coefficient t) (coefficient u)), reduced-⊠))
 
-  -- the two laws on which routes 1 and 2 stand
+  -- a list that is spread holds numbers below p where the list does
+  spread-below : (q : ℕ) (a : ℕ → ℕ) → ((k : ℕ) → a k < p) → (k : ℕ) → Bernstein.spread q a k < p
+  unfolding Bernstein.spread
+  spread-below q a h k = go (eqb (k % q) 0)
+    where
+      go : (b : Bool) → cond b (a (k / q)) 0 < p
+      go true = h (k / q)
+      go false = l
 
-  series-composed : (n : ℕ) (f g : List ℕ) → Agree n (series-of (composed p n f g)) (value f (series-of g))
-  series-composed n f g = rw (composed-listed n f g) (series-listed n (value f (series-of g)))
+  pub spreadList-listed : (q n : ℕ) (s : List ℕ) → ((k : ℕ) → coefficient s k < p)
+      → spreadList q n s ≡ listed n (spread (residues l) q (series-of s))
+  unfolding spreadList
+  spreadList-listed q n s h =
+      small-listed n (Bernstein.spread q (coefficient s)) (λ k b. spread-below q (coefficient s) h k)
+      ∙ ap (listed n) (rw (spread-naturals q (coefficient s)) (coefficients-spread (reduction l) q (coefficient s)))
 
-  pub composed-∷ : (n c : ℕ) (f g : List ℕ) → hornerStep p n c (composed p n f g) g ≡ composed p n (c ∷ f) g
-  composed-∷ n c f g =
-      rw (hornerStep-listed, composed-listed n (c ∷ f) g, evaluate-∷ scalars, ⊗-comm residue-series (series-of g))
-      (listed-agree (agree-⊞ (residues l) (agree-refl (scalars .map c)) (agree-⊠ (residues l) (series-composed n f g) (agree-refl (series-of g)))))
-
-  pub composed-++ : (n : ℕ) (f h g : List ℕ)
-      → joined p n (composed p n f g) (composed p n h g) (cutPower p n g (length f)) ≡ composed p n (f ++ h) g
-  composed-++ n f h g =
-      rw (joined-listed, composed-listed n (f ++ h) g, evaluate-++ scalars, ⊗-comm residue-series (Power.power residue-series (series-of g) (length f)))
-      (listed-agree (agree-⊞ (residues l) (series-composed n f g) (agree-⊠ (residues l) (series-composed n h g) (rw (cutPower-listed n g (length f)) (series-listed n (Power.power residue-series (series-of g) (length f)))))))
+  pub identity-listed : (n : ℕ) → 1 < p → identity n ≡ listed n (indeterminate (residues l))
+  unfolding identity identityAt Plain.constant
+  identity-listed n h =
+      small-listed n identityAt (λ k b. small k)
+      ∙ ap (listed n) (rw identity-series (coefficients-indeterminate (reduction l)))
+    where
+      small : (k : ℕ) → identityAt k < p
+      small zero = l
+      small (suc zero) = h
+      small (suc (suc k)) = l

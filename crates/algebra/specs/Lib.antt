@@ -22,3 +22,4 @@ pub mod Homomorphism
 pub mod Evaluate
 pub mod Substitution
 pub mod Bridge
+pub mod Composition

@@ -6,7 +6,7 @@
 --   listAt file count at    the list of so many numbers from place `at` on
 --   jobRefusal file         the number of the answer: 12, then 13, then what compose returns
 --   jobText file            the whole answer
-use Prim.Native.Nat.{ℕ, zero, suc, _+_, _*_}
+use Prim.Native.Nat.{ℕ, _+_, _*_}
 use mathlib.Core.Bool.{Bool, cond, not, _&&_, _||_}
 use mathlib.Core.List.{List}
 use lib.Dec.{leb, ltb, eqb}

@@ -5,14 +5,14 @@
 --   composeRefusal, reverseRefusal, openRefusal, cycleRefusal, tableRefusal, renderRefusal   the number of each call
 --   composeWork n m      the places of work that compose and reverse ask for
 --   cycleWork n m        the places of work that a cycle asks for
-use Prim.Native.Nat.{ℕ, zero, suc, _+_, _*_}
-use mathlib.Core.Bool.{Bool, true, false, cond, not, _&&_, _||_}
+use Prim.Native.Nat.{ℕ, _+_, _*_}
+use mathlib.Core.Bool.{Bool, false, cond, not, _&&_, _||_}
 use mathlib.Core.List.{List, [], _∷_}
 use lib.Dec.{leb, ltb, eqb}
 use lib.ListN.{length}
 use Rattle.definition.specs.Lists.{coefficient}
 use Rattle.definition.specs.Prime.{isPrime}
-use Rattle.definition.specs.PrimeTable.{largestModulus, primeTable}
+use Rattle.definition.specs.PrimeTable.{largestModulus}
 
 -- a number and the test that gives it
 pub record Test : Type 0 where

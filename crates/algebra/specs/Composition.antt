@@ -1,0 +1,115 @@
+-- Laws of the composition f(g) modulo x^n and p, of lists. Assumes nothing.
+--
+--   series-composed    the series of a composition is the value of f at the series of g, below n
+--   composed-∷         Horner's rule: on which route 1 stands
+--   composed-++        the composition of an appended list, on which route 2 stands
+--   composed-agree     the composition depends on the inner list below n alone
+--   composed-equal     when two compositions with one inner list are equal (demand 3, for lists)
+use Prim.Native.Nat.{ℕ, zero, suc, _*_, _<_}
+use mathlib.Core.List.{List, _∷_, _++_}
+use mathlib.Core.Logic.{_↔_, _≢_, Iff·symm, Iff·trans}
+use mathlib.Core.Path.{_≡_, sym, ap, _∙_}
+use lib.ListN.{length}
+use native.Mathlib.Nat.{mod-eq-of-lt}
+use native.Mathlib.Omega.{arith}
+use Rattle.algebra.specs.Agree.{Agree, Vanish, agree-refl, agree-⊞, agree-⊠}
+use Rattle.algebra.specs.Bridge.{series-of, residue-series, scalars, value, listed-agree, agree-listed, series-listed, composed-listed, hornerStep-listed, joined-listed, cutPower-listed}
+use Rattle.algebra.specs.Evaluate.{evaluate-∷, evaluate-++, evaluate-agree}
+use Rattle.algebra.specs.Homomorphism.{coefficients-at}
+use Rattle.algebra.specs.Power.{power}
+use Rattle.algebra.specs.Prime.{prime-positive}
+use Rattle.algebra.specs.Residue.{Residue, residue, residues, residues-negation, reduction, residue-0, residue-equal, residue-zero}
+use Rattle.algebra.specs.Semiring.{⊗-comm}
+use Rattle.algebra.specs.Series.{Series, tail, shift, shift-0, shift-suc, decompose, indeterminate-⊠}
+use Rattle.algebra.specs.Vanishing.{taylor-agreement}
+use Rattle.algebra.specs.Valuation.{valuation-positive, valuation-zero, valuation-nonzero}
+use Rattle.algebra.specs.Lists.{tabulate-cong, coefficient-tabulate, ceilDiv-below}
+use Rattle.algebra.specs.Fermat.{residues-domain}
+use Rattle.definition.specs.Lists.{coefficient, ceilDiv}
+use Rattle.definition.specs.Prime.{Prime}
+use Rattle.definition.specs.Ranged.{cutPower, joined}
+use Rattle.definition.specs.Substitution.{composed, hornerStep}
+use Rattle.definition.specs.Taylor.{shifted, valuation, leadingAt, leading}
+
+module _ {p : ℕ} (l : 0 < p) where
+  pub series-composed : (n : ℕ) (f g : List ℕ) → Agree n (series-of l (composed p n f g)) (value l f (series-of l g))
+  series-composed n f g = rw (composed-listed l n f g) (series-listed l n (value l f (series-of l g)))
+
+  pub composed-∷ : (n c : ℕ) (f g : List ℕ) → hornerStep p n c (composed p n f g) g ≡ composed p n (c ∷ f) g
+  composed-∷ n c f g =
+      rw (hornerStep-listed l, composed-listed l n (c ∷ f) g, evaluate-∷ (scalars l), ⊗-comm (residue-series l) (series-of l g))
+      (listed-agree
+      (agree-⊞ (residues l) (agree-refl (scalars l .map c))
+      (agree-⊠ (residues l) (series-composed n f g) (agree-refl (series-of l g)))))
+
+  pub composed-++ : (n : ℕ) (f h g : List ℕ)
+      → joined p n (composed p n f g) (composed p n h g) (cutPower p n g (length f)) ≡ composed p n (f ++ h) g
+  composed-++ n f h g =
+      rw (joined-listed l, composed-listed l n (f ++ h) g, evaluate-++ (scalars l), ⊗-comm (residue-series l) (power (residue-series l) (series-of l g) (length f)))
+      (listed-agree
+      (agree-⊞ (residues l) (series-composed n f g)
+      (agree-⊠ (residues l) (series-composed n h g)
+      (rw (cutPower-listed l n g (length f)) (series-listed l n (power (residue-series l) (series-of l g) (length f)))))))
+
+  series-agree : {n : ℕ} (g h : List ℕ) → Agree n (coefficient g) (coefficient h) → Agree n (series-of l g) (series-of l h)
+  series-agree g h e k b = rw (coefficients-at (reduction l), coefficients-at (reduction l), e k b)
+
+  pub composed-agree : (n : ℕ) (f g h : List ℕ) → Agree n (coefficient g) (coefficient h) → composed p n f g ≡ composed p n f h
+  composed-agree n f g h e =
+      rw (composed-listed l n f g, composed-listed l n f h)
+      (listed-agree (evaluate-agree (residues l) (scalars l) f (series-agree g h e)))
+
+module _ {p : ℕ} (P : Prime p) (n : ℕ) (g : List ℕ) (below : (k : ℕ) → coefficient g k < p) where
+  positive : 0 < p
+  positive = prime-positive P
+
+  -- g without its constant term
+  rest : Series (Residue p)
+  rest = shift (residues positive) (tail (series-of positive g))
+
+  rest-suc : (k : ℕ) → rest (suc k) ≡ residue positive (coefficient g (suc k))
+  unfolding rest
+  rest-suc k = rw (shift-suc (residues positive), coefficients-at (reduction positive))
+
+  rest-low : Vanish (residues positive) (valuation n g) rest
+  unfolding rest
+  rest-low zero b = shift-0 (residues positive) (tail (series-of positive g))
+  rest-low (suc k) b = rest-suc k ∙ rw (valuation-zero n g (suc k) (omega arith) b, residue-0 positive)
+
+  rest-first : valuation n g < n → rest (valuation n g) ≢ residues positive .𝟘
+  rest-first b e = valuation-nonzero n g b (at (valuation n g) (valuation-positive n g) e)
+    where
+      at : (v : ℕ) → 0 < v → rest v ≡ residues positive .𝟘 → coefficient g v ≡ 0
+      at zero h z = absurd (omega arith)
+      at (suc v) h z = sym (mod-eq-of-lt (below (suc v))) ∙ residue-zero positive (coefficient g (suc v)) .0 (sym (rest-suc v) ∙ z)
+
+  split : series-of positive g ≡ residue-series positive ._⊕_ (scalars positive .map (coefficient g 0)) rest
+  unfolding rest
+  split =
+      decompose (residues positive) (series-of positive g)
+      ∙ rw (indeterminate-⊠ (residues positive), coefficients-at (reduction positive))
+
+  leading-residues : (f h : List ℕ)
+      → (leading p n f g ≡ leading p n h g)
+      ↔ ((i : ℕ) → i * valuation n g < n → residue positive (shifted f (coefficient g 0) i) ≡ residue positive (shifted h (coefficient g 0) i))
+  unfolding leading leadingAt
+  leading-residues f h = (
+    λ e i b.
+        let k : i < ceilDiv n (valuation n g) = ceilDiv-below (valuation-positive n g) n i .1 b in
+        residue-equal positive _ _ .1
+        (sym (coefficient-tabulate _ (leadingAt p f g) i k) ∙ ap (λ t. coefficient t i) e ∙ coefficient-tabulate _ (leadingAt p h g) i k),
+    λ e. tabulate-cong (ceilDiv n (valuation n g)) (leadingAt p f g) (leadingAt p h g)
+        (λ i k. residue-equal positive _ _ .0 (e i (ceilDiv-below (valuation-positive n g) n i .0 k))),
+  )
+
+  composed-residues : (f h : List ℕ)
+      → (composed p n f g ≡ composed p n h g)
+      ↔ Agree n (value positive f (series-of positive g)) (value positive h (series-of positive g))
+  composed-residues f h =
+      rw (composed-listed positive n f g, composed-listed positive n h g)
+      (agree-listed (value positive f (series-of positive g)) (value positive h (series-of positive g)), listed-agree)
+
+  pub composed-equal : (f h : List ℕ) → (composed p n f g ≡ composed p n h g) ↔ (leading p n f g ≡ leading p n h g)
+  composed-equal f h =
+      let t = taylor-agreement (residues positive) (residues-negation positive) (residues-domain positive P) (reduction positive) (coefficient g 0) rest (valuation-positive n g) rest-low rest-first f h in
+      Iff·trans (composed-residues f h) (Iff·trans (rw split t) (Iff·symm (leading-residues f h)))
