@@ -6,3 +6,4 @@ pub mod Series
 pub mod Agree
 pub mod Homomorphism
 pub mod Evaluate
+pub mod Quotient
