@@ -7,3 +7,4 @@ pub mod Agree
 pub mod Homomorphism
 pub mod Evaluate
 pub mod Quotient
+pub mod Spread
