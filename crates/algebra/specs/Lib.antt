@@ -8,3 +8,4 @@ pub mod Homomorphism
 pub mod Evaluate
 pub mod Quotient
 pub mod Spread
+pub mod Substitution

@@ -14,11 +14,12 @@
 --   𝟘-at 𝟙-constant ⊞-at neg-at sum-at   coefficients of 𝟘, 𝟙, sums, negations, finite sums
 --   ⊠-0 ⊠-suc                 coefficients of a product, by recursion on the place
 --   ⊠-at                      coefficient k of a product is the sum of a_i b_(k-i) over i ≤ k
---   constant-0 constant-suc   coefficients of a constant
+--   constant-0 constant-suc tail-constant   coefficients and tail of a constant
 --   constant-⊠-at             coefficients of a constant times a series
---   shift-0 shift-suc         coefficients of a shift
+--   shift-0 shift-suc tail-shift   coefficients and tail of a shift
 --   shift-⊠                   a shift moves out of a product
---   indeterminate-shift indeterminate-⊠   x is the shift of 𝟙, and the product with x is the shift
+--   indeterminate-shift indeterminate-0   x is the shift of 𝟙, and its constant term is 𝟘
+--   indeterminate-⊠           the product with x is the shift
 --   decompose                 a series is its constant term plus x times its tail
 --   power-⊠-above power-⊠-below   coefficients of x^j times a series, from place j on and before it
 use Prim.Native.Nat.{ℕ, zero, suc, _+_, _-_, _<_}
@@ -178,6 +179,9 @@ module _ {A : Type 0} (R : Semiring A) where
   unfolding constant
   constant-suc c k = refl
 
+  pub tail-constant : (c : A) → tail (constant c) ≡ constant 𝟘
+  tail-constant c = equal-by-tail (rw (constant-0, constant-suc)) (λ k. rw (constant-suc, constant-suc))
+
   pub constant-⊠-at : (c : A) (a : Series A) (k : ℕ) → (constant c ⊠ a) k ≡ c ⊗ a k
   unfolding series
   constant-⊠-at = constant-product
@@ -190,6 +194,9 @@ module _ {A : Type 0} (R : Semiring A) where
   unfolding shift
   shift-suc a k = refl
 
+  pub tail-shift : (a : Series A) → tail (shift a) ≡ a
+  tail-shift a = fun-ext (shift-suc a)
+
   pub shift-⊠ : (a b : Series A) → shift a ⊠ b ≡ shift (a ⊠ b)
   unfolding shift
   shift-⊠ a b = equal-by-tail (rw (⊠-0, 𝟘-⊗ R)) (λ k. rw (⊠-suc, 𝟘-⊗ R, 𝟘-⊕ R))
@@ -197,6 +204,9 @@ module _ {A : Type 0} (R : Semiring A) where
   pub indeterminate-shift : indeterminate ≡ shift 𝟙ˢ
   unfolding indeterminate series
   indeterminate-shift = refl
+
+  pub indeterminate-0 : indeterminate 0 ≡ 𝟘
+  indeterminate-0 = rw (indeterminate-shift, shift-0)
 
   pub indeterminate-⊠ : (a : Series A) → indeterminate ⊠ a ≡ shift a
   indeterminate-⊠ a = rw (indeterminate-shift, shift-⊠, 𝟙-⊗ series)
