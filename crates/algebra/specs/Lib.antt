@@ -9,3 +9,5 @@ pub mod Evaluate
 pub mod Quotient
 pub mod Spread
 pub mod Substitution
+pub mod Alternate
+pub mod Graeffe

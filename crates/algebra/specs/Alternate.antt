@@ -1,0 +1,88 @@
+-- The series a(-x), and the even and odd parts of a series. Assumes nothing.
+--
+--   alternate R N a       a(-x)
+--   alternation R N       alternating is a homomorphism of series
+use Prim.Native.Nat.{ℕ, zero, suc, _+_, _*_, _/_, _%_, _<_}
+use lib.Dec.{eqb}
+use mathlib.Core.Bool.{cond}
+use mathlib.Core.Path.{_≡_, refl, sym, ap, fun-ext, _∙_}
+use native.Mathlib.Nat.{mul-suc, mul-mod-right}
+use native.Mathlib.Omega.{arith}
+use Rattle.algebra.specs.Homomorphism.{Homomorphism}
+use Rattle.algebra.specs.Negation.{Negation, neg-⊗, neg-𝟘, neg-neg}
+use Rattle.algebra.specs.Semiring.{Semiring, 𝟘-⊕, ⊕-𝟘}
+use Rattle.algebra.specs.Series.{Series, series, series-negation, tail, indeterminate, indeterminate-0, indeterminate-⊠, shift, shift-0, shift-suc, ⊞-at, constant, constant-0, constant-suc, neg-at}
+use Rattle.algebra.specs.Spread.{spread, spread-multiple, spread-between}
+use Rattle.algebra.specs.Substitution.{substitute, substitution, substitute-horner}
+
+abbrev pub even : {A : Type 0} → Series A → Series A
+even a i = a (2 * i)
+
+abbrev pub odd : {A : Type 0} → Series A → Series A
+odd a i = a (suc (2 * i))
+
+pub 0<2 : 0 < 2
+0<2 = omega arith
+
+odd-mod : (i : ℕ) → suc (2 * i) % 2 ≡ 1
+odd-mod i = omega arith
+
+pub equal-by-parity : {A : Type 0} {a b : Series A} → ((i : ℕ) → even a i ≡ even b i) → ((i : ℕ) → odd a i ≡ odd b i) → a ≡ b
+equal-by-parity {a} {b} h g = fun-ext (λ i. at i (i % 2) refl)
+  where
+    at : (i j : ℕ) → i % 2 ≡ j → a i ≡ b i
+    at i zero e = let f : i ≡ 2 * (i / 2) = omega arith in rw f (h (i / 2))
+    at i (suc j) e = let f : i ≡ suc (2 * (i / 2)) = omega arith in rw f (g (i / 2))
+
+module _ {A : Type 0} (R : Semiring A) (N : Negation R) where
+  open Semiring R using (𝟘, 𝟙, _⊕_, _⊗_)
+  open Negation N using (neg)
+  open Semiring (series R) using (𝟘 as 𝟘ˢ, 𝟙 as 𝟙ˢ, _⊕_ as _⊞_, _⊗_ as _⊠_)
+  open Negation (series-negation R N) using (neg as negˢ)
+
+  infixl 50 _⊞_
+  infixl 60 _⊠_
+  no-constant : negˢ (indeterminate R) 0 ≡ 𝟘
+  no-constant = rw (neg-at R N, indeterminate-0 R, neg-𝟘 R N)
+
+  pub alternation : Homomorphism (series R) (series R)
+  alternation = substitution R (negˢ (indeterminate R)) no-constant
+
+  abbrev pub alternate : Series A → Series A
+  alternate = alternation .map
+
+  alternate-horner : (a : Series A) → alternate a ≡ constant R (a 0) ⊞ negˢ (shift R (alternate (tail a)))
+  unfolding alternation
+  alternate-horner a =
+      rw (substitute-horner R (negˢ (indeterminate R)) no-constant a, neg-⊗ (series R) (series-negation R N), indeterminate-⊠ R)
+
+  pub alternate-0 : (a : Series A) → alternate a 0 ≡ a 0
+  alternate-0 a = rw (alternate-horner a, ⊞-at R, constant-0 R, neg-at R N, shift-0 R, neg-𝟘 R N, ⊕-𝟘 R)
+
+  pub alternate-suc : (a : Series A) (i : ℕ) → alternate a (suc i) ≡ neg (alternate (tail a) i)
+  alternate-suc a i = rw (alternate-horner a, ⊞-at R, constant-suc R, neg-at R N, shift-suc R, 𝟘-⊕ R)
+
+  pub alternate-at : (a : Series A) (i : ℕ) → alternate a i ≡ cond (eqb (i % 2) 0) (a i) (neg (a i))
+  alternate-at a zero = alternate-0 a
+  alternate-at a (suc zero) = rw (alternate-suc, alternate-0)
+  alternate-at a (suc (suc i)) =
+      let e : suc (suc i) % 2 ≡ i % 2 = omega arith in
+      rw (alternate-suc, alternate-suc, neg-neg R N, e) (alternate-at (λ k. a (suc (suc k))) i)
+
+  spread-odd : (s : Series A) (i : ℕ) → spread R 2 s (suc (2 * i)) ≡ 𝟘
+  spread-odd s i = spread-between R 2 0<2 s (suc (2 * i)) (omega arith)
+
+  shift-spread-even : (s : Series A) (i : ℕ) → shift R (spread R 2 s) (2 * i) ≡ 𝟘
+  shift-spread-even s zero = shift-0 R (spread R 2 s)
+  shift-spread-even s (suc i) =
+      let e : 2 * suc i ≡ suc (suc (2 * i)) = omega arith in rw (e, shift-suc R, spread-odd)
+
+  pub split : (a : Series A) → a ≡ spread R 2 (even a) ⊞ indeterminate R ⊠ spread R 2 (odd a)
+  split a = rw (indeterminate-⊠ R) (equal-by-parity
+      (λ i. rw (⊞-at R, spread-multiple R 2 0<2 (even a) i, shift-spread-even, ⊕-𝟘 R))
+      (λ i. rw (⊞-at R, spread-odd, shift-suc R, spread-multiple R 2 0<2 (odd a) i, 𝟘-⊕ R)))
+
+  pub alternate-split : (a : Series A) → alternate a ≡ spread R 2 (even a) ⊞ negˢ (indeterminate R ⊠ spread R 2 (odd a))
+  alternate-split a = rw (indeterminate-⊠ R) (equal-by-parity
+      (λ i. rw (⊞-at R, spread-multiple R 2 0<2 (even a) i, neg-at R N, shift-spread-even, neg-𝟘 R N, ⊕-𝟘 R, alternate-at, mul-mod-right))
+      (λ i. rw (⊞-at R, spread-odd, neg-at R N, shift-suc R, spread-multiple R 2 0<2 (odd a) i, 𝟘-⊕ R, alternate-at, odd-mod)))
