@@ -6,13 +6,13 @@ use Prim.Native.Nat.{ℕ, zero, suc, _+_, _*_, _/_, _%_, _<_}
 use lib.Dec.{eqb}
 use mathlib.Core.Bool.{cond}
 use mathlib.Core.Path.{_≡_, refl, sym, ap, fun-ext, _∙_}
-use native.Mathlib.Nat.{mul-suc, mul-mod-right}
+use native.Mathlib.Nat.{mul-suc, mul-mod-right, mul-div-cancel-left}
 use native.Mathlib.Omega.{arith}
 use Rattle.algebra.specs.Homomorphism.{Homomorphism}
 use Rattle.algebra.specs.Negation.{Negation, neg-⊗, neg-𝟘, neg-neg}
 use Rattle.algebra.specs.Semiring.{Semiring, 𝟘-⊕, ⊕-𝟘}
 use Rattle.algebra.specs.Series.{Series, series, series-negation, tail, indeterminate, indeterminate-0, indeterminate-⊠, shift, shift-0, shift-suc, ⊞-at, constant, constant-0, constant-suc, neg-at}
-use Rattle.algebra.specs.Spread.{spread, spread-multiple, spread-between}
+use Rattle.algebra.specs.Spread.{spread, spread-at}
 use Rattle.algebra.specs.Substitution.{substitute, substitution, substitute-horner}
 
 abbrev pub even : {A : Type 0} → Series A → Series A
@@ -69,8 +69,11 @@ module _ {A : Type 0} (R : Semiring A) (N : Negation R) where
       let e : suc (suc i) % 2 ≡ i % 2 = omega arith in
       rw (alternate-suc, alternate-suc, neg-neg R N, e) (alternate-at (λ k. a (suc (suc k))) i)
 
-  spread-odd : (s : Series A) (i : ℕ) → spread R 2 s (suc (2 * i)) ≡ 𝟘
-  spread-odd s i = spread-between R 2 0<2 s (suc (2 * i)) (omega arith)
+  pub spread-even : (s : Series A) (i : ℕ) → spread R 2 s (2 * i) ≡ s i
+  spread-even s i = rw (spread-at R 2, mul-mod-right, mul-div-cancel-left i 0<2)
+
+  pub spread-odd : (s : Series A) (i : ℕ) → spread R 2 s (suc (2 * i)) ≡ 𝟘
+  spread-odd s i = rw (spread-at R 2, odd-mod)
 
   shift-spread-even : (s : Series A) (i : ℕ) → shift R (spread R 2 s) (2 * i) ≡ 𝟘
   shift-spread-even s zero = shift-0 R (spread R 2 s)
@@ -79,10 +82,10 @@ module _ {A : Type 0} (R : Semiring A) (N : Negation R) where
 
   pub split : (a : Series A) → a ≡ spread R 2 (even a) ⊞ indeterminate R ⊠ spread R 2 (odd a)
   split a = rw (indeterminate-⊠ R) (equal-by-parity
-      (λ i. rw (⊞-at R, spread-multiple R 2 0<2 (even a) i, shift-spread-even, ⊕-𝟘 R))
-      (λ i. rw (⊞-at R, spread-odd, shift-suc R, spread-multiple R 2 0<2 (odd a) i, 𝟘-⊕ R)))
+      (λ i. rw (⊞-at R, spread-even, shift-spread-even, ⊕-𝟘 R))
+      (λ i. rw (⊞-at R, spread-odd, shift-suc R, spread-even, 𝟘-⊕ R)))
 
   pub alternate-split : (a : Series A) → alternate a ≡ spread R 2 (even a) ⊞ negˢ (indeterminate R ⊠ spread R 2 (odd a))
   alternate-split a = rw (indeterminate-⊠ R) (equal-by-parity
-      (λ i. rw (⊞-at R, spread-multiple R 2 0<2 (even a) i, neg-at R N, shift-spread-even, neg-𝟘 R N, ⊕-𝟘 R, alternate-at, mul-mod-right))
-      (λ i. rw (⊞-at R, spread-odd, neg-at R N, shift-suc R, spread-multiple R 2 0<2 (odd a) i, 𝟘-⊕ R, alternate-at, odd-mod)))
+      (λ i. rw (⊞-at R, spread-even, neg-at R N, shift-spread-even, neg-𝟘 R N, ⊕-𝟘 R, alternate-at, mul-mod-right))
+      (λ i. rw (⊞-at R, spread-odd, neg-at R N, shift-suc R, spread-even, 𝟘-⊕ R, alternate-at, odd-mod)))

@@ -3,13 +3,14 @@
 -- A series in x and y is a series in y over the series in x: a j i is the coefficient of y^j x^i.
 use Prim.Native.Nat.{ℕ, zero, suc, _+_, _*_}
 use mathlib.Core.Path.{_≡_, refl, sym, ap, ap₂, fun-ext, _∙_}
-use Rattle.algebra.specs.Alternate.{alternation, alternate, even, odd, split, alternate-split, 0<2}
+use Rattle.algebra.specs.Alternate.{alternation, alternate, even, odd, split, alternate-split, spread-even, 0<2}
 use Rattle.algebra.specs.Homomorphism.{Homomorphism, constant-⊗, coefficients, coefficients-at, coefficientwise, coefficients-constant, map-neg}
 use Rattle.algebra.specs.Negation.{Negation, signed}
 use Rattle.algebra.specs.Power.{power-suc, power-1}
-use Rattle.algebra.specs.Semiring.{Semiring, ring}
-use Rattle.algebra.specs.Series.{Series, series, series-negation, indeterminate, ⊞-at, constant, constant-⊠-at, neg-at}
-use Rattle.algebra.specs.Spread.{spread, spreading, spread-multiple, spread-indeterminate}
+use Rattle.algebra.specs.Semiring.{Semiring, ring, 𝟘-⊗}
+use Rattle.algebra.specs.Series.{Series, ⊠-0, indeterminate-0, series, series-negation, indeterminate, ⊞-at, constant, constant-⊠-at, neg-at}
+use Rattle.algebra.specs.Spread.{spread, spreading, spread-substitute}
+use Rattle.algebra.specs.Substitution.{substitute-indeterminate}
 
 module _ {A B : Type 0} {R : Semiring A} {S : Semiring B} (N : Negation R) (M : Negation S) (φ : Homomorphism R S) where
   open Semiring S using (_⊕_, _⊗_)
@@ -43,7 +44,7 @@ module _ {A : Type 0} (R : Semiring A) (N : Negation R) where
 
   evenPart-squared : (a : Series (Series A)) → evenPart (squared a) ≡ a
   evenPart-squared a = fun-ext λ j. fun-ext λ i.
-      rw (coefficients-at (spreading R 2 0<2)) (spread-multiple R 2 0<2 (a j) i)
+      rw (coefficients-at (spreading R 2 0<2)) (spread-even R N (a j) i)
 
   x : Series (Series A)
   x = constant (series R) (indeterminate R)
@@ -60,9 +61,14 @@ module _ {A : Type 0} (R : Semiring A) (N : Negation R) where
       rw (⊞-at (series R), neg-at (series R) (series-negation R N), x-⊠-at, coefficients-at (spreading R 2 0<2), coefficients-at (alternation R N))
       (sym (alternate-split R N (Q j)))
 
+  spread-indeterminate : spread R 2 (indeterminate R) ≡ series R ._⊗_ (indeterminate R) (indeterminate R)
+  spread-indeterminate =
+      rw (spread-substitute R 2 0<2 (indeterminate R), power-suc (series R), power-1 (series R))
+      (substitute-indeterminate R _ (rw (⊠-0 R, indeterminate-0 R, 𝟘-⊗ R)))
+
   squared-x : squared x ≡ x ⊠ x
   unfolding x
-  squared-x = rw (coefficients-constant (spreading R 2 0<2), spread-indeterminate R 2 0<2, power-suc (series R), power-1 (series R), constant-⊗ (series R))
+  squared-x = rw (coefficients-constant (spreading R 2 0<2), spread-indeterminate, constant-⊗ (series R))
 
   pub squared-graeffe : (Q : Series (Series A)) → squared (graeffe Q) ≡ Q ⊠ opposite Q
   unfolding graeffe

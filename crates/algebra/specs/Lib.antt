@@ -1,3 +1,14 @@
+pub mod Lists
+pub mod Remainder
+pub mod Prime
+pub mod Binomial
+pub mod Natural
+pub mod Residue
+pub mod Domain
+pub mod Frobenius
+pub mod Fermat
+pub mod Spread
+pub mod Parts
 pub mod Semiring
 pub mod Negation
 pub mod Power
@@ -7,7 +18,6 @@ pub mod Agree
 pub mod Homomorphism
 pub mod Evaluate
 pub mod Quotient
-pub mod Spread
 pub mod Substitution
 pub mod Alternate
 pub mod Graeffe

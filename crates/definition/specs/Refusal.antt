@@ -1,0 +1,129 @@
+-- The number that a call returns: 0 where it is accepted, else the number of the first test that fires. Each call is the list of its tests,
+-- in the order in which 01 makes them. Lists come as lists of numbers; of an output or a work buffer only the count of places is read.
+--
+--   first tests          the number of the first test that fires, or 0
+--   composeRefusal, reverseRefusal, openRefusal, cycleRefusal, tableRefusal, renderRefusal   the number of each call
+--   composeWork n m      the places of work that compose and reverse ask for
+--   cycleWork n m        the places of work that a cycle asks for
+use Prim.Native.Nat.{ℕ, zero, suc, _+_, _*_}
+use mathlib.Core.Bool.{Bool, true, false, cond, not, _&&_, _||_}
+use mathlib.Core.List.{List, [], _∷_}
+use lib.Dec.{leb, ltb, eqb}
+use lib.ListN.{length}
+use Rattle.definition.specs.Lists.{coefficient}
+use Rattle.definition.specs.Prime.{isPrime}
+use Rattle.definition.specs.PrimeTable.{largestModulus, primeTable}
+
+-- a number and the test that gives it
+pub record Test : Type 0 where
+  pub number : ℕ
+  pub fires : Bool
+
+unfoldable pub test : ℕ → Bool → Test
+test n b = record { number = n; fires = b }
+
+unfoldable pub first : List Test → ℕ
+first [] = 0
+first (t ∷ ts) = cond (t .fires) (t .number) (first ts)
+
+-- the largest order, and the longest list that a call takes
+unfoldable pub limit : ℕ
+limit = 4096
+
+-- the most cycles of a chain
+unfoldable pub mostCycles : ℕ
+mostCycles = 64
+
+unfoldable pub composeWork : ℕ → ℕ → ℕ
+composeWork n m = 128 * n + 8 * m
+
+unfoldable pub cycleWork : ℕ → ℕ → ℕ
+cycleWork n m = 144 * n + 8 * m
+
+-- 1: the route is not 1, 2, 3 or 4
+unfoldable pub badRoute : ℕ → Bool
+badRoute route = eqb route 0 || ltb 4 route
+
+-- 2: p is not prime, or above the largest modulus
+unfoldable pub badModulus : ℕ → Bool
+badModulus p = ltb largestModulus p || not (isPrime p)
+
+-- 3: n is 0 or above 4096
+unfoldable pub badOrder : ℕ → Bool
+badOrder n = eqb n 0 || ltb limit n
+
+-- 4 and 5: a list is longer than 4096
+unfoldable pub tooLong : List ℕ → Bool
+tooLong l = ltb limit (length l)
+
+-- 6: a list has not exactly n places
+unfoldable pub notPlaces : ℕ → ℕ → Bool
+notPlaces n places = not (eqb places n)
+
+-- 8: a coefficient of the list is p or more
+unfoldable pub exceeds : ℕ → List ℕ → Bool
+exceeds p [] = false
+exceeds p (c ∷ l) = leb p c || exceeds p l
+
+-- 9: no h without constant term has g(h) = x modulo x^n
+unfoldable pub irreversible : ℕ → List ℕ → Bool
+irreversible n g = not (eqb (coefficient g 0) 0) || ltb 1 n && eqb (coefficient g 1) 0
+
+-- 10: the constant term is not zero
+unfoldable pub hasConstant : List ℕ → Bool
+hasConstant l = not (eqb (coefficient l 0) 0)
+
+unfoldable pub composeRefusal : ℕ → ℕ → ℕ → List ℕ → List ℕ → ℕ → ℕ → ℕ
+composeRefusal route p n f g places work =
+    first
+    (test 1 (badRoute route)
+    ∷ test 2 (badModulus p)
+    ∷ test 3 (badOrder n)
+    ∷ test 4 (tooLong f)
+    ∷ test 5 (tooLong g)
+    ∷ test 6 (notPlaces n places)
+    ∷ test 7 (ltb work (composeWork n (length f)))
+    ∷ test 8 (exceeds p f || exceeds p g)
+    ∷ [])
+
+unfoldable pub reverseRefusal : ℕ → ℕ → List ℕ → ℕ → ℕ → ℕ
+reverseRefusal p n g places work =
+    first
+    (test 2 (badModulus p)
+    ∷ test 3 (badOrder n)
+    ∷ test 5 (tooLong g)
+    ∷ test 6 (notPlaces n places)
+    ∷ test 7 (ltb work (composeWork n (length g)))
+    ∷ test 8 (exceeds p g)
+    ∷ test 9 (irreversible n g)
+    ∷ [])
+
+unfoldable pub openRefusal : ℕ → ℕ → ℕ → ℕ
+openRefusal p n places = first (test 2 (badModulus p) ∷ test 3 (badOrder n) ∷ test 6 (notPlaces n places) ∷ [])
+
+-- a cycle c of a chain of modulus p and order n whose running series is s, with `done` cycles done
+unfoldable pub cycleRefusal : ℕ → ℕ → ℕ → ℕ → List ℕ → List ℕ → ℕ → ℕ
+cycleRefusal route p n done c s work =
+    first
+    (test 1 (badRoute route)
+    ∷ test 2 (badModulus p)
+    ∷ test 3 (badOrder n)
+    ∷ test 5 (tooLong c)
+    ∷ test 6 (notPlaces n (length s))
+    ∷ test 7 (ltb work (cycleWork n (length c)))
+    ∷ test 8 (exceeds p c || exceeds p s)
+    ∷ test 10 (hasConstant c || hasConstant s)
+    ∷ test 11 (leb mostCycles done)
+    ∷ [])
+
+unfoldable pub tableRefusal : ℕ → ℕ
+tableRefusal index = first (test 14 (leb 16 index) ∷ [])
+
+-- rendering a text of `bytes` bytes into a buffer of `text` places: a refusal number meets only 7
+unfoldable pub renderRefusal : ℕ → ℕ → ℕ → ℕ → ℕ → ℕ
+renderRefusal number n places bytes text =
+    first
+    (test 3 (eqb number 0 && badOrder n)
+    ∷ test 6 (eqb number 0 && notPlaces n places)
+    ∷ test 7 (ltb text bytes)
+    ∷ [])
