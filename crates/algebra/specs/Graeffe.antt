@@ -18,7 +18,7 @@ module _ {A B : Type 0} {R : Semiring A} {S : Semiring B} (N : Negation R) (M : 
 
   conjugates : (e o z : A) (x : B) → map z ≡ x ⊗ x
       → (map e ⊕ x ⊗ map o) ⊗ (map e ⊕ M .neg (x ⊗ map o))
-        ≡ map (R ._⊕_ (R ._⊗_ e e) (N .neg (R ._⊗_ z (R ._⊗_ o o))))
+      ≡ map (R ._⊕_ (R ._⊗_ e e) (N .neg (R ._⊗_ z (R ._⊗_ o o))))
   conjugates e o z x h = simp (φ .map-⊕, φ .map-⊗, map-neg φ N M, h, ring, signed)
 
 module _ {A : Type 0} (R : Semiring A) (N : Negation R) where

@@ -21,3 +21,4 @@ pub mod Quotient
 pub mod Substitution
 pub mod Alternate
 pub mod Graeffe
+pub mod Plane
