@@ -22,3 +22,4 @@ pub mod Substitution
 pub mod Alternate
 pub mod Graeffe
 pub mod Plane
+pub mod KinoshitaLi

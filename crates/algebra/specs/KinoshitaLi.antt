@@ -1,0 +1,79 @@
+-- Route 4 as laws of series in two variables: P/Q by halving the order in x. Assumes nothing.
+use Prim.Native.Nat.{ℕ, zero, suc, _+_, _-_, _*_, _<_, _≤_, _^_, min}
+use mathlib.Core.Path.{_≡_, refl, sym, ap, ap₂, fun-ext, _∙_}
+use native.Mathlib.Decide.{decLt}
+use native.Mathlib.Nat.{lt-suc-self, pow-suc}
+use native.Mathlib.Omega.{arith}
+use Rattle.definition.specs.Lists.{ceilDiv}
+use Rattle.definition.specs.Weight.{degreeBound}
+use Rattle.algebra.specs.Agree.{Agree, agree-refl, agree-trans, agree-equal}
+use Rattle.algebra.specs.Alternate.{0<2}
+use Rattle.algebra.specs.Graeffe.{squared, squaring, squared-at, opposite, opposite-at, opposite-degree, graeffe, graeffe-0, graeffe-degree, squared-graeffe}
+use Rattle.algebra.specs.Homomorphism.{Homomorphism, coefficients, coefficients-at, constants, constant-term}
+use Rattle.algebra.specs.Negation.{Negation}
+use Rattle.algebra.specs.Plane.{Plane, AgreePlane, Degree, window, ⊠-window, agree-plane-⊠, agree-plane-quotient, cut, cut-plane, cut-plane-below, cut-plane-equal, cut-beyond}
+use Rattle.algebra.specs.Quotient.{quotient, quotient-unique, quotient-⊠, quotient-map}
+use Rattle.algebra.specs.Semiring.{Semiring, ⊗-assoc, ⊗-comm}
+use Rattle.algebra.specs.Series.{Series, series, series-negation, constant-0}
+use Rattle.algebra.specs.Spread.{spread-agree, spread-constant}
+
+module _ {A : Type 0} (R : Semiring A) (N : Negation R) (P : Series A) where
+  open Semiring (series R) using (𝟘, 𝟙)
+  open Semiring (series (series R)) using (_⊗_ as _⊠_)
+
+  infixl 60 _⊠_
+  abbrev numerator : Plane A
+  numerator = coefficients (constants R) P
+
+  pub fraction : Plane A → Plane A
+  fraction Q = quotient (series R) (series-negation R N) numerator Q
+
+  squared-numerator : squared R numerator ≡ numerator
+  squared-numerator = fun-ext λ j.
+      rw (squared-at R, coefficients-at (constants R)) (spread-constant R 2 0<2 (P j))
+
+  pub fraction-graeffe : (Q : Plane A) → Q 0 ≡ 𝟙 → fraction Q ≡ squared R (fraction (graeffe R N Q)) ⊠ opposite R N Q
+  unfolding fraction
+  fraction-graeffe Q unit = sym (quotient-unique (series R) (series-negation R N) Q unit numerator _ (
+      rw (
+        ⊗-assoc (series (series R)),
+        ⊗-comm (series (series R)) (opposite R N Q) Q,
+        ← squared-graeffe R N Q,
+        ← squaring R .map-⊗ (fraction (graeffe R N Q)) (graeffe R N Q),
+        quotient-⊠ (series R) (series-negation R N) (graeffe R N Q) (graeffe-0 R N Q unit) numerator,
+      )
+      squared-numerator))
+
+  pub fraction-at-0 : (Q : Plane A) → Q 0 ≡ 𝟙 → (j : ℕ) → fraction Q j 0 ≡ quotient R N P (λ i. Q i 0) j
+  unfolding fraction
+  fraction-at-0 Q unit j =
+      sym (coefficients-at (constant-term R) (fraction Q) j)
+      ∙ ap (λ s. s j) (quotient-map (series-negation R N) N (constant-term R) numerator Q unit)
+      ∙ ap₂ (λ s t. quotient R N s t j)
+        (fun-ext λ i. rw (coefficients-at (constant-term R), coefficients-at (constants R), constant-0 R))
+        (fun-ext (coefficients-at (constant-term R) Q))
+
+  pub agree-fraction : {m r : ℕ} {Q W : Plane A} → AgreePlane m r Q W → AgreePlane m r (fraction Q) (fraction W)
+  unfolding fraction
+  agree-fraction h = agree-plane-quotient R N (λ j l. agree-refl _) h
+
+  module _ (m : ℕ) where
+    pub level : {r d e c : ℕ} (Q W U : Plane A) → Q 0 ≡ 𝟙 → d ≡ e + c → (0 < e → Degree (series R) m c Q)
+        → AgreePlane m (ceilDiv r 2) W (graeffe R N Q)
+        → ((j : ℕ) → e + j < m → Agree (ceilDiv r 2) (U j) (fraction W (e + j)))
+        → (j : ℕ) → d + j < m → Agree r ((squared R U ⊠ opposite R N Q) (c + j)) (fraction Q (d + j))
+    level {r} {d} {e} {c} Q W U unit s degree v u j l =
+        let f : d + j ≡ e + (c + j) = omega arith in
+        rw (f, fraction-graeffe Q unit, ⊠-window (series R) e (c + j) (squared R S) (opposite R N Q) vanishes)
+        (agree-plane-⊠ R windows (λ i b. agree-refl _) (c + j) (lt-suc-self (c + j)))
+      where
+        S : Plane A
+        S = fraction (graeffe R N Q)
+
+        vanishes : (i : ℕ) → c + j < i → i ≤ e + (c + j) → opposite R N Q i ≡ 𝟘
+        vanishes i a b = opposite-degree R N (degree (omega arith)) i (omega arith) (omega arith)
+
+        windows : AgreePlane (suc (c + j)) r (squared R U) (window e (squared R S))
+        windows i b =
+            rw (squared-at R, squared-at R)
+            (spread-agree R 2 0<2 (agree-trans (u i (omega arith)) (agree-fraction v (e + i) (omega arith))))
