@@ -6,15 +6,15 @@ use native.Mathlib.Nat.{lt-suc-self, pow-suc}
 use native.Mathlib.Omega.{arith}
 use Rattle.definition.specs.Lists.{ceilDiv}
 use Rattle.definition.specs.Weight.{degreeBound}
-use Rattle.algebra.specs.Agree.{Agree, agree-refl, agree-trans, agree-equal}
+use Rattle.algebra.specs.Agree.{Agree, agree-refl, agree-trans, agree-equal, agree-weaken}
 use Rattle.algebra.specs.Alternate.{0<2}
 use Rattle.algebra.specs.Graeffe.{squared, squaring, squared-at, opposite, opposite-at, opposite-degree, graeffe, graeffe-0, graeffe-degree, squared-graeffe}
 use Rattle.algebra.specs.Homomorphism.{Homomorphism, coefficients, coefficients-at, constants, constant-term}
 use Rattle.algebra.specs.Negation.{Negation}
-use Rattle.algebra.specs.Plane.{Plane, AgreePlane, Degree, window, ⊠-window, agree-plane-⊠, agree-plane-quotient, cut, cut-plane, cut-plane-below, cut-plane-equal, cut-beyond}
+use Rattle.algebra.specs.Plane.{Plane, AgreePlane, Degree, window, ⊠-window, agree-plane-⊠, agree-plane-quotient, cut, cut-plane, cut-plane-below, cut-plane-equal, cut-below, cut-beyond, cut-constant}
 use Rattle.algebra.specs.Quotient.{quotient, quotient-unique, quotient-⊠, quotient-map}
 use Rattle.algebra.specs.Semiring.{Semiring, ⊗-assoc, ⊗-comm}
-use Rattle.algebra.specs.Series.{Series, series, series-negation, constant-0}
+use Rattle.algebra.specs.Series.{Series, series, series-negation, constant-0, 𝟙-constant}
 use Rattle.algebra.specs.Spread.{spread-agree, spread-constant}
 
 module _ {A : Type 0} (R : Semiring A) (N : Negation R) (P : Series A) where
@@ -50,8 +50,8 @@ module _ {A : Type 0} (R : Semiring A) (N : Negation R) (P : Series A) where
       sym (coefficients-at (constant-term R) (fraction Q) j)
       ∙ ap (λ s. s j) (quotient-map (series-negation R N) N (constant-term R) numerator Q unit)
       ∙ ap₂ (λ s t. quotient R N s t j)
-        (fun-ext λ i. rw (coefficients-at (constant-term R), coefficients-at (constants R), constant-0 R))
-        (fun-ext (coefficients-at (constant-term R) Q))
+      (fun-ext λ i. rw (coefficients-at (constant-term R), coefficients-at (constants R), constant-0 R))
+      (fun-ext (coefficients-at (constant-term R) Q))
 
   pub agree-fraction : {m r : ℕ} {Q W : Plane A} → AgreePlane m r Q W → AgreePlane m r (fraction Q) (fraction W)
   unfolding fraction
@@ -77,3 +77,55 @@ module _ {A : Type 0} (R : Semiring A) (N : Negation R) (P : Series A) where
         windows i b =
             rw (squared-at R, squared-at R)
             (spread-agree R 2 0<2 (agree-trans (u i (omega arith)) (agree-fraction v (e + i) (omega arith))))
+
+    -- the denominator one level down, with its cuts
+    pub next : ℕ → ℕ → Plane A → Plane A
+    next r q Q = cut-plane R (suc (degreeBound m q)) (ceilDiv r 2) (graeffe R N Q)
+
+    module _ (r q : ℕ) (Q : Plane A) where
+      next-degree : Degree (series R) m (degreeBound m q) (next r q Q)
+      unfolding next
+      next-degree j l b = cut-beyond (series R) (suc (degreeBound m q)) _ j l
+
+      next-0 : 0 < r → Q 0 ≡ 𝟙 → next r q Q 0 ≡ 𝟙
+      unfolding next ceilDiv
+      next-0 l unit =
+          rw (cut-below (series R) (suc (degreeBound m q)) _ 0 (omega arith), graeffe-0 R N Q unit, 𝟙-constant R)
+          (cut-constant R (omega arith) (R .𝟙))
+
+      next-agree : Degree (series R) m q Q → AgreePlane m (ceilDiv r 2) (next r q Q) (graeffe R N Q)
+      unfolding next degreeBound
+      next-agree h j l = at (decLt j (suc (degreeBound m q)))
+        where
+          at : Dec (j < suc (degreeBound m q)) → Agree (ceilDiv r 2) (next r q Q j) (graeffe R N Q j)
+          at (yes b) = cut-plane-below R (suc (degreeBound m q)) (ceilDiv r 2) (graeffe R N Q) j b
+          at (no b) = agree-equal (next-degree j (omega arith) l ∙ sym (graeffe-degree R N h j (omega arith) l))
+
+    pub levels : ℕ → ℕ → ℕ → ℕ → Plane A → Plane A
+    levels zero r q d Q = cut-plane R (m - d) r (window d (coefficients (constants R) (quotient R N P (λ j. Q j 0))))
+    levels (suc K) r q d Q =
+        cut-plane R (m - d) r (window (d - (d - q))
+        (squared R (levels K (ceilDiv r 2) (degreeBound m q) (d - q) (next r q Q)) ⊠ opposite R N Q))
+
+    order-one : (Q : Plane A) → Q 0 ≡ 𝟙 → (j : ℕ)
+        → Agree 1 (coefficients (constants R) (quotient R N P (λ i. Q i 0)) j) (fraction Q j)
+    order-one Q unit j zero l = rw (coefficients-at (constants R), constant-0 R) (sym (fraction-at-0 Q unit j))
+    order-one Q unit j (suc k) l = absurd (omega arith)
+
+    pub levels-fraction : (K r q d : ℕ) (Q : Plane A) → 0 < r → r ≤ 2 ^ K → Q 0 ≡ 𝟙 → Degree (series R) m q Q
+        → levels K r q d Q ≡ cut-plane R (m - d) r (window d (fraction Q))
+    unfolding levels ceilDiv
+    levels-fraction zero r q d Q a b unit h =
+        cut-plane-equal R (λ j l. agree-weaken b (order-one Q unit (d + j)))
+    levels-fraction (suc K) r q d Q a b unit h =
+        rw (levels-fraction K (ceilDiv r 2) (degreeBound m q) (d - q) (next r q Q)
+        (omega arith) (omega arith) (next-0 r q Q a unit) (next-degree r q Q))
+        (cut-plane-equal R (λ j l. level Q (next r q Q) _ unit (omega arith) degree (next-agree r q Q h) windows j (omega arith)))
+      where
+        degree : 0 < d - q → Degree (series R) m (d - (d - q)) Q
+        degree p i l u = h i (omega arith) u
+
+        windows : (j : ℕ) → d - q + j < m
+            → Agree (ceilDiv r 2) (cut-plane R (m - (d - q)) (ceilDiv r 2) (window (d - q) (fraction (next r q Q))) j)
+            (fraction (next r q Q) (d - q + j))
+        windows j l = cut-plane-below R (m - (d - q)) (ceilDiv r 2) (window (d - q) (fraction (next r q Q))) j (omega arith)

@@ -13,7 +13,7 @@ use Rattle.algebra.specs.Agree.{Agree, agree-refl, agree-sum, agree-⊞,
 use Rattle.algebra.specs.Negation.{Negation}
 use Rattle.algebra.specs.Quotient.{quotient, quotient-respects}
 use Rattle.algebra.specs.Semiring.{Semiring, ⊗-𝟘, 𝟘-⊗, 𝟘-⊕}
-use Rattle.algebra.specs.Series.{Series, series, series-negation, tail, ⊠-at, ⊠-suc}
+use Rattle.algebra.specs.Series.{Series, series, series-negation, constant, constant-suc, tail, ⊠-at, ⊠-suc}
 use Rattle.algebra.specs.Sum.{sum-𝟘}
 
 abbrev pub Plane : Type 0 → Type 0
@@ -71,6 +71,14 @@ module _ {A : Type 0} (R : Semiring A) where
       at : (k : ℕ) → Dec (k < n) → cut n a k ≡ cut n b k
       at k (yes l) = rw (cut-below n a k l, cut-below n b k l) (h k l)
       at k (no l) = rw (cut-beyond n a k (omega arith), cut-beyond n b k (omega arith))
+
+  pub cut-constant : {n : ℕ} → 0 < n → (c : A) → cut n (constant R c) ≡ constant R c
+  cut-constant {n} l c = fun-ext λ k. at k (decLt k n)
+    where
+      at : (k : ℕ) → Dec (k < n) → cut n (constant R c) k ≡ constant R c k
+      at k (yes b) = cut-below n (constant R c) k b
+      at zero (no b) = absurd (b l)
+      at (suc k) (no b) = cut-beyond n (constant R c) (suc k) (omega arith) ∙ sym (constant-suc R c k)
 
 module _ {A : Type 0} (R : Semiring A) where
   open Semiring (series R) using (𝟘, _⊗_ as _⊠_)
