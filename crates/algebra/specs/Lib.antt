@@ -23,3 +23,4 @@ pub mod Alternate
 pub mod Graeffe
 pub mod Plane
 pub mod KinoshitaLi
+pub mod Geometric
