@@ -44,7 +44,7 @@ module _ {A : Type 0} (R : Semiring A) (x : A) (xs : List A) where
 module _ {A B : Type 0} {R : Semiring A} (S : Semiring B) (M : Negation S) (φ : Homomorphism R S) where
   pub quotient-evaluate : (x : A) (xs : List A) (g : B)
       → quotient S M (coefficients φ (polynomial R (reverse (x ∷ xs)))) (denominator S M g) (length xs)
-        ≡ evaluate φ (x ∷ xs) g
+      ≡ evaluate φ (x ∷ xs) g
   quotient-evaluate x [] g = rw (quotient-0 S M, coefficients-at φ, evaluate-∷ φ, evaluate-[] φ, ⊗-𝟘 S, ⊕-𝟘 S)
   quotient-evaluate x (y ∷ ys) g =
       rw (

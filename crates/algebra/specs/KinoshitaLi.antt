@@ -1,5 +1,7 @@
 -- Route 4 as laws of series in two variables: P/Q by halving the order in x. Assumes nothing.
 use Prim.Native.Nat.{ℕ, zero, suc, _+_, _-_, _*_, _<_, _≤_, _^_, min}
+use lib.ListN.{length}
+use mathlib.Core.List.{List, [], _∷_, reverse}
 use mathlib.Core.Path.{_≡_, refl, sym, ap, ap₂, fun-ext, _∙_}
 use native.Mathlib.Decide.{decLt}
 use native.Mathlib.Nat.{lt-suc-self, pow-suc}
@@ -8,10 +10,12 @@ use Rattle.definition.specs.Lists.{ceilDiv}
 use Rattle.definition.specs.Weight.{degreeBound}
 use Rattle.algebra.specs.Agree.{Agree, agree-refl, agree-trans, agree-equal, agree-weaken}
 use Rattle.algebra.specs.Alternate.{0<2}
+use Rattle.algebra.specs.Evaluate.{evaluate, polynomial}
+use Rattle.algebra.specs.Geometric.{denominator, quotient-evaluate}
 use Rattle.algebra.specs.Graeffe.{squared, squaring, squared-at, opposite, opposite-at, opposite-degree, graeffe, graeffe-0, graeffe-degree, squared-graeffe}
 use Rattle.algebra.specs.Homomorphism.{Homomorphism, coefficients, coefficients-at, constants, constant-term}
 use Rattle.algebra.specs.Negation.{Negation}
-use Rattle.algebra.specs.Plane.{Plane, AgreePlane, Degree, window, ⊠-window, agree-plane-⊠, agree-plane-quotient, cut, cut-plane, cut-plane-below, cut-plane-equal, cut-below, cut-beyond, cut-constant}
+use Rattle.algebra.specs.Plane.{Plane, AgreePlane, Degree, window, ⊠-window, agree-plane-⊠, agree-plane-quotient, cut, cut-equal, cut-plane, cut-plane-below, cut-plane-equal, cut-below, cut-beyond, cut-constant}
 use Rattle.algebra.specs.Quotient.{quotient, quotient-unique, quotient-⊠, quotient-map}
 use Rattle.algebra.specs.Semiring.{Semiring, ⊗-assoc, ⊗-comm}
 use Rattle.algebra.specs.Series.{Series, series, series-negation, constant-0, 𝟙-constant}
@@ -129,3 +133,41 @@ module _ {A : Type 0} (R : Semiring A) (N : Negation R) (P : Series A) where
             → Agree (ceilDiv r 2) (cut-plane R (m - (d - q)) (ceilDiv r 2) (window (d - q) (fraction (next r q Q))) j)
             (fraction (next r q Q) (d - q + j))
         windows j l = cut-plane-below R (m - (d - q)) (ceilDiv r 2) (window (d - q) (fraction (next r q Q))) j (omega arith)
+
+module _ {A : Type 0} (R : Semiring A) (N : Negation R) (g : Series A) where
+  abbrev Q₀ : Plane A
+  Q₀ = denominator (series R) (series-negation R N) g
+
+  pub denominator-degree : (m : ℕ) → Degree (series R) m (min 1 (m - 1)) Q₀
+  unfolding denominator
+  denominator-degree m zero l b = absurd (omega arith)
+  denominator-degree m (suc zero) l b = absurd (omega arith)
+  denominator-degree m (suc (suc j)) l b = refl
+
+  pub fraction-evaluate : (x : A) (xs : List A)
+      → fraction R N (polynomial R (reverse (x ∷ xs))) Q₀ (length xs) ≡ evaluate (constants R) (x ∷ xs) g
+  unfolding fraction
+  fraction-evaluate x xs = quotient-evaluate (series R) (series-negation R N) (constants R) x xs g
+
+  pub levels-evaluate : (f : List A) (n K q d : ℕ) (Q : Plane A) → length f ≡ suc d → 0 < n → n ≤ 2 ^ K
+      → Q 0 ≡ series R .𝟙 → Degree (series R) (length f) q Q → AgreePlane (length f) n Q Q₀
+      → levels R N (polynomial R (reverse f)) (length f) K n q d Q 0 ≡ cut R n (evaluate (constants R) f g)
+  levels-evaluate [] n K q d Q e a b unit h v = absurd (omega arith)
+  levels-evaluate (x ∷ xs) n K q d Q e a b unit h v =
+      let last : d + 0 ≡ length xs = omega arith in
+      rw (
+        levels-fraction R N P (suc (length xs)) K n q d Q a b unit h,
+        cut-below (series R) (suc (length xs) - d) _ 0 (omega arith),
+      )
+      (cut-equal R (rw (← fraction-evaluate x xs, last) (agree-fraction R N P v (length xs) (lt-suc-self (length xs)))))
+    where
+      P : Series A
+      P = polynomial R (reverse (x ∷ xs))
+
+  pub kinoshita-li : (f : List A) (n K : ℕ) → 0 < length f → 0 < n → n ≤ 2 ^ K
+      → levels R N (polynomial R (reverse f)) (length f) K n (min 1 (length f - 1)) (length f - 1) Q₀ 0
+      ≡ cut R n (evaluate (constants R) f g)
+  unfolding denominator
+  kinoshita-li f n K l a b =
+      levels-evaluate f n K (min 1 (length f - 1)) (length f - 1) Q₀ (omega arith) a b refl
+      (denominator-degree (length f)) (λ j u. agree-refl (Q₀ j))
