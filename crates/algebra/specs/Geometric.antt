@@ -3,13 +3,12 @@
 --   denominator R N g     the series 1 - y g
 --   quotient-denominator  P/(1 - y g) by recursion: coefficient k + 1 is P_(k+1) ⊕ g ⊗ (coefficient k)
 --   quotient-evaluate     with the coefficients of f in reverse order for P, coefficient m - 1 of P/(1 - y g) is f(g), m the length of f
-use Prim.Native.Nat.{ℕ, zero, suc, _<_}
-use lib.ListN.{getD, length, length-reverse, List·getD-append}
+use Prim.Native.Nat.{ℕ, zero, suc}
+use lib.ListN.{length, length-reverse, List·getD-append}
 use lib.Seq.{getD-at}
-use mathlib.Core.List.{List, [], _∷_, _++_, reverse, reverse-cons}
-use mathlib.Core.Path.{_≡_, refl, ap, _∙_}
+use mathlib.Core.List.{List, [], _∷_, reverse, reverse-cons}
+use mathlib.Core.Path.{_≡_}
 use native.Mathlib.Nat.{lt-suc-self}
-use native.Mathlib.Omega.{arith}
 use Rattle.algebra.specs.Agree.{Agree, agree-refl}
 use Rattle.algebra.specs.Evaluate.{evaluate, evaluate-[], evaluate-∷, polynomial}
 use Rattle.algebra.specs.Homomorphism.{Homomorphism, coefficients, coefficients-at}

@@ -8,8 +8,8 @@
 --   squared-graeffe       V(x², y) is Q(x, y) Q(-x, y)
 --   graeffe-0             V has constant term 𝟙 in y if Q has
 --   opposite-degree graeffe-degree   the degree in y of Q(-x, y) is that of Q, the degree of V twice that
-use Prim.Native.Nat.{ℕ, _+_, _*_}
-use mathlib.Core.Path.{_≡_, refl, sym, ap₂, fun-ext, _∙_}
+use Prim.Native.Nat.{ℕ, _+_}
+use mathlib.Core.Path.{_≡_, refl, ap₂, fun-ext, _∙_}
 use Rattle.algebra.specs.Alternate.{
   alternation,
   alternate,
@@ -21,6 +21,7 @@ use Rattle.algebra.specs.Alternate.{
   even-fixed,
   0<2,
 }
+use Rattle.algebra.specs.Cut.{Degree, ⊠-degree}
 use Rattle.algebra.specs.Homomorphism.{
   Homomorphism,
   coefficients,
@@ -31,11 +32,10 @@ use Rattle.algebra.specs.Homomorphism.{
   map-neg,
 }
 use Rattle.algebra.specs.Negation.{Negation, signed}
-use Rattle.algebra.specs.Plane.{Plane, Degree, ⊠-degree}
+use Rattle.algebra.specs.Plane.{Plane}
 use Rattle.algebra.specs.Power.{power-suc, power-1}
 use Rattle.algebra.specs.Semiring.{Semiring, ring, 𝟘-⊗, 𝟙-⊗}
 use Rattle.algebra.specs.Series.{
-  Series,
   series,
   series-negation,
   indeterminate,

@@ -1,21 +1,66 @@
--- Route 4 as laws of series in two variables: P/Q by halving the order in x. Assumes nothing.
-use Prim.Native.Nat.{ℕ, zero, suc, _+_, _-_, _*_, _<_, _≤_, _^_, min}
+-- Route 4, Kinoshita and Li, as laws of series in x and y: P/Q by halving the order in x. Assumes nothing.
+--
+-- P is a series in y alone, Q a series in x and y with constant term 𝟙 in y; Q may have powers of y up to q and from m on, and only
+-- powers of y below m matter. r is the order in x. V stands for the even part of Q(x, y) Q(-x, y).
+--
+--   fraction R N P Q      P/Q
+--   fraction-graeffe      P/Q is (P/V)(x², y) Q(-x, y)
+--   fraction-at-0         at x = 0 it is the quotient P/Q(0, y) in one variable
+--   agree-fraction        it respects agreement of Q below y^m and x^r
+--   level                 one level: the powers of y from e to m - 1 of P/V below x^⌈r/2⌉ give those from d = e + c to m - 1 of P/Q below
+--                         x^r, if Q has no powers of y above c, or e is 0
+--   cut-graeffe r q Q     V, cut below x^⌈r/2⌉ and above the bound on its degree
+--   levels K r q d Q      K levels from order r on, with the bound q on the degree of Q; at the last one P is divided by Q(0, y)
+--   levels-fraction       they give the powers of y from d to m - 1 of P/Q, below x^r
+--   fraction-evaluate     f(g) is coefficient m - 1 of P/(1 - y g) for f's list reversed as P, m its length
+--   denominator-degree    the first bound on the degree of 1 - y g
+--   levels-evaluate       the levels give f(g) below x^n from every Q that agrees with 1 - y g below y^m and x^n
+--   kinoshita-li          the levels give f(g) below x^n from 1 - y g
+use Prim.Native.Nat.{ℕ, zero, suc, _+_, _-_, _<_, _≤_, _^_, min}
 use lib.ListN.{length}
 use mathlib.Core.List.{List, [], _∷_, reverse}
 use mathlib.Core.Path.{_≡_, refl, sym, ap, ap₂, fun-ext, _∙_}
 use native.Mathlib.Decide.{decLt}
-use native.Mathlib.Nat.{lt-suc-self, pow-suc}
+use native.Mathlib.Nat.{lt-suc-self}
 use native.Mathlib.Omega.{arith}
 use Rattle.definition.specs.Lists.{ceilDiv}
 use Rattle.definition.specs.Weight.{degreeBound}
 use Rattle.algebra.specs.Agree.{Agree, agree-refl, agree-trans, agree-equal, agree-weaken}
 use Rattle.algebra.specs.Alternate.{0<2}
+use Rattle.algebra.specs.Cut.{
+  window,
+  ⊠-window,
+  Degree,
+  cut,
+  cut-below,
+  cut-beyond,
+  cut-constant,
+  cut-equal,
+}
 use Rattle.algebra.specs.Evaluate.{evaluate, polynomial}
 use Rattle.algebra.specs.Geometric.{denominator, quotient-evaluate}
-use Rattle.algebra.specs.Graeffe.{squared, squaring, squared-at, opposite, opposite-at, opposite-degree, graeffe, graeffe-0, graeffe-degree, squared-graeffe}
-use Rattle.algebra.specs.Homomorphism.{Homomorphism, coefficients, coefficients-at, constants, constant-term}
+use Rattle.algebra.specs.Graeffe.{
+  squared,
+  squaring,
+  squared-at,
+  opposite,
+  opposite-degree,
+  graeffe,
+  graeffe-0,
+  graeffe-degree,
+  squared-graeffe,
+}
+use Rattle.algebra.specs.Homomorphism.{coefficients, coefficients-at, constants, constant-term}
 use Rattle.algebra.specs.Negation.{Negation}
-use Rattle.algebra.specs.Plane.{Plane, AgreePlane, Degree, window, ⊠-window, agree-plane-⊠, agree-plane-quotient, cut, cut-equal, cut-plane, cut-plane-below, cut-plane-equal, cut-below, cut-beyond, cut-constant}
+use Rattle.algebra.specs.Plane.{
+  Plane,
+  AgreePlane,
+  agree-plane-⊠,
+  agree-plane-quotient,
+  cut-plane,
+  cut-plane-below,
+  cut-plane-equal,
+}
 use Rattle.algebra.specs.Quotient.{quotient, quotient-unique, quotient-⊠, quotient-map}
 use Rattle.algebra.specs.Semiring.{Semiring, ⊗-assoc, ⊗-comm}
 use Rattle.algebra.specs.Series.{Series, series, series-negation, constant-0, 𝟙-constant}
@@ -82,34 +127,33 @@ module _ {A : Type 0} (R : Semiring A) (N : Negation R) (P : Series A) where
             rw (squared-at R, squared-at R)
             (spread-agree R 2 0<2 (agree-trans (u i (omega arith)) (agree-fraction v (e + i) (omega arith))))
 
-    -- the denominator one level down, with its cuts
-    pub next : ℕ → ℕ → Plane A → Plane A
-    next r q Q = cut-plane R (suc (degreeBound m q)) (ceilDiv r 2) (graeffe R N Q)
+    unfoldable pub cut-graeffe : ℕ → ℕ → Plane A → Plane A
+    cut-graeffe r q Q = cut-plane R (suc (degreeBound m q)) (ceilDiv r 2) (graeffe R N Q)
 
     module _ (r q : ℕ) (Q : Plane A) where
-      next-degree : Degree (series R) m (degreeBound m q) (next r q Q)
-      unfolding next
-      next-degree j l b = cut-beyond (series R) (suc (degreeBound m q)) _ j l
+      cut-graeffe-degree : Degree (series R) m (degreeBound m q) (cut-graeffe r q Q)
+      unfolding cut-graeffe
+      cut-graeffe-degree j l b = cut-beyond (series R) (suc (degreeBound m q)) _ j l
 
-      next-0 : 0 < r → Q 0 ≡ 𝟙 → next r q Q 0 ≡ 𝟙
-      unfolding next ceilDiv
-      next-0 l unit =
+      cut-graeffe-0 : 0 < r → Q 0 ≡ 𝟙 → cut-graeffe r q Q 0 ≡ 𝟙
+      unfolding cut-graeffe ceilDiv
+      cut-graeffe-0 l unit =
           rw (cut-below (series R) (suc (degreeBound m q)) _ 0 (omega arith), graeffe-0 R N Q unit, 𝟙-constant R)
           (cut-constant R (omega arith) (R .𝟙))
 
-      next-agree : Degree (series R) m q Q → AgreePlane m (ceilDiv r 2) (next r q Q) (graeffe R N Q)
-      unfolding next degreeBound
-      next-agree h j l = at (decLt j (suc (degreeBound m q)))
+      cut-graeffe-agree : Degree (series R) m q Q → AgreePlane m (ceilDiv r 2) (cut-graeffe r q Q) (graeffe R N Q)
+      unfolding cut-graeffe degreeBound
+      cut-graeffe-agree h j l = at (decLt j (suc (degreeBound m q)))
         where
-          at : Dec (j < suc (degreeBound m q)) → Agree (ceilDiv r 2) (next r q Q j) (graeffe R N Q j)
+          at : Dec (j < suc (degreeBound m q)) → Agree (ceilDiv r 2) (cut-graeffe r q Q j) (graeffe R N Q j)
           at (yes b) = cut-plane-below R (suc (degreeBound m q)) (ceilDiv r 2) (graeffe R N Q) j b
-          at (no b) = agree-equal (next-degree j (omega arith) l ∙ sym (graeffe-degree R N h j (omega arith) l))
+          at (no b) = agree-equal (cut-graeffe-degree j (omega arith) l ∙ sym (graeffe-degree R N h j (omega arith) l))
 
-    pub levels : ℕ → ℕ → ℕ → ℕ → Plane A → Plane A
+    unfoldable pub levels : ℕ → ℕ → ℕ → ℕ → Plane A → Plane A
     levels zero r q d Q = cut-plane R (m - d) r (window d (coefficients (constants R) (quotient R N P (λ j. Q j 0))))
     levels (suc K) r q d Q =
         cut-plane R (m - d) r (window (d - (d - q))
-        (squared R (levels K (ceilDiv r 2) (degreeBound m q) (d - q) (next r q Q)) ⊠ opposite R N Q))
+        (squared R (levels K (ceilDiv r 2) (degreeBound m q) (d - q) (cut-graeffe r q Q)) ⊠ opposite R N Q))
 
     order-one : (Q : Plane A) → Q 0 ≡ 𝟙 → (j : ℕ)
         → Agree 1 (coefficients (constants R) (quotient R N P (λ i. Q i 0)) j) (fraction Q j)
@@ -122,17 +166,10 @@ module _ {A : Type 0} (R : Semiring A) (N : Negation R) (P : Series A) where
     levels-fraction zero r q d Q a b unit h =
         cut-plane-equal R (λ j l. agree-weaken b (order-one Q unit (d + j)))
     levels-fraction (suc K) r q d Q a b unit h =
-        rw (levels-fraction K (ceilDiv r 2) (degreeBound m q) (d - q) (next r q Q)
-        (omega arith) (omega arith) (next-0 r q Q a unit) (next-degree r q Q))
-        (cut-plane-equal R (λ j l. level Q (next r q Q) _ unit (omega arith) degree (next-agree r q Q h) windows j (omega arith)))
-      where
-        degree : 0 < d - q → Degree (series R) m (d - (d - q)) Q
-        degree p i l u = h i (omega arith) u
-
-        windows : (j : ℕ) → d - q + j < m
-            → Agree (ceilDiv r 2) (cut-plane R (m - (d - q)) (ceilDiv r 2) (window (d - q) (fraction (next r q Q))) j)
-            (fraction (next r q Q) (d - q + j))
-        windows j l = cut-plane-below R (m - (d - q)) (ceilDiv r 2) (window (d - q) (fraction (next r q Q))) j (omega arith)
+        rw (levels-fraction K (ceilDiv r 2) (degreeBound m q) (d - q) (cut-graeffe r q Q)
+        (omega arith) (omega arith) (cut-graeffe-0 r q Q a unit) (cut-graeffe-degree r q Q))
+        (cut-plane-equal R (λ j l. level Q (cut-graeffe r q Q) _ unit (omega arith)
+        (λ p i u v. h i (omega arith) v) (cut-graeffe-agree r q Q h) (λ i u. cut-plane-below R _ _ _ i (omega arith)) j (omega arith)))
 
 module _ {A : Type 0} (R : Semiring A) (N : Negation R) (g : Series A) where
   abbrev Q₀ : Plane A

@@ -19,8 +19,9 @@ pub mod Homomorphism
 pub mod Evaluate
 pub mod Quotient
 pub mod Substitution
+pub mod Cut
+pub mod Plane
 pub mod Alternate
 pub mod Graeffe
-pub mod Plane
-pub mod KinoshitaLi
 pub mod Geometric
+pub mod KinoshitaLi

@@ -5,23 +5,26 @@
 --   quotient R N P Q      P/Q: its constant term is P_0, its tail is (tail P - P_0 tail Q)/Q
 --   quotient-0 quotient-suc   these two equations
 --   quotient-⊠            (P/Q) ⊠ Q is P
+--   quotient-next         coefficient k of P/Q from those before it: P_k - (Q_k U_0 + .. + Q_1 U_(k-1)), U = P/Q
 --   ⊠-quotient            (U ⊠ Q)/Q is U
 --   quotient-unique       U is P/Q if U ⊠ Q is P
 --   quotient-respects     a relation that the operations of the coefficients respect is kept by quotients
 --   agree-quotient        quotients of series that agree below n agree below n
 --   ⊠-cancel              U and W agree below n if U ⊠ Q and W ⊠ Q do
 --   quotient-map          a homomorphism applied to each coefficient keeps quotients
-use Prim.Native.Nat.{ℕ, zero, suc, _<_}
+use Prim.Native.Nat.{ℕ, zero, suc, _-_, _<_}
 use mathlib.Core.Path.{_≡_, refl, sym, ap, fun-ext, _∙_}
+use native.Mathlib.Nat.{sub-self}
 use native.Mathlib.Omega.{arith}
 use Rattle.algebra.specs.Agree.{Agree, agree-refl}
 use Rattle.algebra.specs.Homomorphism.{Homomorphism, coefficientwise, coefficients, coefficients-at}
-use Rattle.algebra.specs.Negation.{Negation, ⊕-neg-cancel}
-use Rattle.algebra.specs.Semiring.{Semiring, ⊗-𝟙, ⊕-assoc, ⊕-comm}
-use Rattle.algebra.specs.Series.{Series, series, tail, ⊠-0, ⊠-suc}
+use Rattle.algebra.specs.Negation.{Negation, signed, ⊕-neg-cancel}
+use Rattle.algebra.specs.Semiring.{Semiring, ring, ⊗-𝟙, ⊕-assoc, ⊕-comm, ⊕-𝟘}
+use Rattle.algebra.specs.Series.{Series, series, tail, ⊠-0, ⊠-suc, ⊠-at}
+use Rattle.algebra.specs.Sum.{sum, sum-suc, sum-⊕, sum-𝟘}
 
 module _ {A : Type 0} (R : Semiring A) (N : Negation R) where
-  open Semiring R using (𝟙, _⊕_, _⊗_)
+  open Semiring R using (𝟘, 𝟙, _⊕_, _⊗_)
   open Negation N using (neg)
   open Semiring (series R) using (_⊗_ as _⊠_)
 
@@ -66,6 +69,26 @@ module _ {A : Type 0} (R : Semiring A) (N : Negation R) where
 
     pub quotient-⊠ : (P : Series A) → quotient P Q ⊠ Q ≡ P
     quotient-⊠ P = fun-ext (quotient-⊠-at P)
+
+    pub quotient-next : (P : Series A) (k : ℕ)
+        → quotient P Q k ≡ P k ⊕ sum R k (λ i. neg (Q (k - i)) ⊗ quotient P Q i)
+    quotient-next P k = sym (
+        rw (
+          ← quotient-⊠-at P k,
+          ⊠-at R,
+          sum-suc R,
+          sub-self,
+          unit,
+          ⊗-𝟙 R,
+          ⊕-comm R (sum R k (λ i. quotient P Q i ⊗ Q (k - i))),
+          ⊕-assoc R,
+          ← sum-⊕ R k (λ i. quotient P Q i ⊗ Q (k - i)) (λ i. neg (Q (k - i)) ⊗ quotient P Q i),
+          sum-𝟘 R k _ cancels,
+          ⊕-𝟘 R,
+        ))
+      where
+        cancels : (i : ℕ) → i < k → quotient P Q i ⊗ Q (k - i) ⊕ neg (Q (k - i)) ⊗ quotient P Q i ≡ 𝟘
+        cancels i l = simp (ring, signed)
 
     ⊠-quotient-at : (U : Series A) (k : ℕ) → quotient (U ⊠ Q) Q k ≡ U k
     unfolding quotient
