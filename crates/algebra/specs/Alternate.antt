@@ -60,7 +60,8 @@ pub 0<2 : 0 < 2
 odd-mod : (i : ℕ) → suc (2 * i) % 2 ≡ 1
 odd-mod i = omega arith
 
-pub equal-by-parity : {A : Type 0} {a b : Series A} → ((i : ℕ) → even a i ≡ even b i) → ((i : ℕ) → odd a i ≡ odd b i) → a ≡ b
+pub equal-by-parity : {A : Type 0} {a b : Series A}
+    → ((i : ℕ) → even a i ≡ even b i) → ((i : ℕ) → odd a i ≡ odd b i) → a ≡ b
 equal-by-parity {a} {b} h g = fun-ext (λ i. at i (i % 2) refl)
   where
     at : (i j : ℕ) → i % 2 ≡ j → a i ≡ b i

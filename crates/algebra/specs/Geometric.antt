@@ -2,7 +2,7 @@
 --
 --   denominator R N g     the series 1 - y g
 --   quotient-denominator  P/(1 - y g) by recursion: coefficient k + 1 is P_(k+1) ⊕ g ⊗ (coefficient k)
---   quotient-evaluate     with the coefficients of f in reverse order for P, coefficient m - 1 of P/(1 - y g) is f(g), m the length of f
+--   quotient-evaluate     f(g) is coefficient m - 1 of P/(1 - y g), with f's list reversed as P and m its length
 use Prim.Native.Nat.{ℕ, zero, suc}
 use lib.ListN.{length, length-reverse, List·getD-append}
 use lib.Seq.{getD-at}
@@ -30,7 +30,13 @@ module _ {A : Type 0} (R : Semiring A) (N : Negation R) where
       → quotient R N P (denominator g) (suc k) ≡ P (suc k) ⊕ g ⊗ quotient R N P (denominator g) k
   unfolding denominator
   quotient-denominator P g zero = rw (quotient-suc R N, quotient-0 R N, quotient-0 R N) (simp (ring, signed))
-  quotient-denominator P g (suc k) = rw (quotient-suc R N P (denominator g) (suc k), quotient-denominator _ g k, quotient-suc R N P (denominator g) k) (simp (ring, signed))
+  quotient-denominator P g (suc k) =
+      rw (
+        quotient-suc R N P (denominator g) (suc k),
+        quotient-denominator _ g k,
+        quotient-suc R N P (denominator g) k,
+      )
+      (simp (ring, signed))
 
 module _ {A : Type 0} (R : Semiring A) (x : A) (xs : List A) where
   reverse-last : polynomial R (reverse (x ∷ xs)) (length xs) ≡ x

@@ -1,19 +1,19 @@
 -- Route 4, Kinoshita and Li, as laws of series in x and y: P/Q by halving the order in x. Assumes nothing.
 --
--- P is a series in y alone, Q a series in x and y with constant term 𝟙 in y; Q may have powers of y up to q and from m on, and only
--- powers of y below m matter. r is the order in x. V stands for the even part of Q(x, y) Q(-x, y).
+-- P is a series in y alone, Q a series in x and y with constant term 𝟙 in y, V the even part of Q(x, y) Q(-x, y). r is the order in x. Only
+-- powers of y below m matter, and of these Q has none above q.
 --
 --   fraction R N P Q      P/Q
 --   fraction-graeffe      P/Q is (P/V)(x², y) Q(-x, y)
 --   fraction-at-0         at x = 0 it is the quotient P/Q(0, y) in one variable
 --   agree-fraction        it respects agreement of Q below y^m and x^r
---   level                 one level: the powers of y from e to m - 1 of P/V below x^⌈r/2⌉ give those from d = e + c to m - 1 of P/Q below
---                         x^r, if Q has no powers of y above c, or e is 0
---   cut-graeffe r q Q     V, cut below x^⌈r/2⌉ and above the bound on its degree
---   levels K r q d Q      K levels from order r on, with the bound q on the degree of Q; at the last one P is divided by Q(0, y)
+--   level                 one level: from the powers of y from e to m - 1 of P/V, below x^⌈r/2⌉, those from d = e + c to m - 1 of P/Q,
+--                         below x^r, if Q has no powers of y above c, or e is 0
+--   cut-graeffe r q Q     V, cut below x^⌈r/2⌉ and to the bound on its degree
+--   levels K r q d Q      K levels from order r on; at the last one P is divided by Q(0, y)
 --   levels-fraction       they give the powers of y from d to m - 1 of P/Q, below x^r
---   fraction-evaluate     f(g) is coefficient m - 1 of P/(1 - y g) for f's list reversed as P, m its length
 --   denominator-degree    the first bound on the degree of 1 - y g
+--   fraction-evaluate     f(g) is coefficient m - 1 of P/(1 - y g), with f's list reversed as P and m its length
 --   levels-evaluate       the levels give f(g) below x^n from every Q that agrees with 1 - y g below y^m and x^n
 --   kinoshita-li          the levels give f(g) below x^n from 1 - y g
 use Prim.Native.Nat.{ℕ, zero, suc, _+_, _-_, _<_, _≤_, _^_, min}
@@ -166,10 +166,13 @@ module _ {A : Type 0} (R : Semiring A) (N : Negation R) (P : Series A) where
     levels-fraction zero r q d Q a b unit h =
         cut-plane-equal R (λ j l. agree-weaken b (order-one Q unit (d + j)))
     levels-fraction (suc K) r q d Q a b unit h =
-        rw (levels-fraction K (ceilDiv r 2) (degreeBound m q) (d - q) (cut-graeffe r q Q)
-        (omega arith) (omega arith) (cut-graeffe-0 r q Q a unit) (cut-graeffe-degree r q Q))
-        (cut-plane-equal R (λ j l. level Q (cut-graeffe r q Q) _ unit (omega arith)
-        (λ p i u v. h i (omega arith) v) (cut-graeffe-agree r q Q h) (λ i u. cut-plane-below R _ _ _ i (omega arith)) j (omega arith)))
+        rw (levels-fraction K (ceilDiv r 2) (degreeBound m q) (d - q) (cut-graeffe r q Q) (omega arith) (omega arith)
+        (cut-graeffe-0 r q Q a unit) (cut-graeffe-degree r q Q))
+        (cut-plane-equal R (λ j l. level Q (cut-graeffe r q Q) _ unit (omega arith) degree (cut-graeffe-agree r q Q h)
+        (λ i u. cut-plane-below R _ _ _ i (omega arith)) j (omega arith)))
+      where
+        degree : 0 < d - q → Degree (series R) m (d - (d - q)) Q
+        degree p i l u = h i (omega arith) u
 
 module _ {A : Type 0} (R : Semiring A) (N : Negation R) (g : Series A) where
   abbrev Q₀ : Plane A

@@ -93,7 +93,8 @@ module _ {A : Type 0} (R : Semiring A) (N : Negation R) where
     ⊠-quotient-at : (U : Series A) (k : ℕ) → quotient (U ⊠ Q) Q k ≡ U k
     unfolding quotient
     ⊠-quotient-at U zero = rw (⊠-0 R, unit, ⊗-𝟙 R)
-    ⊠-quotient-at U (suc k) = simp (⊠-suc R, ⊠-0 R, unit, ⊗-𝟙 R, ⊕-assoc R, ⊕-comm R, ⊕-neg-cancel R N) (⊠-quotient-at (tail U) k)
+    ⊠-quotient-at U (suc k) =
+        simp (⊠-suc R, ⊠-0 R, unit, ⊗-𝟙 R, ⊕-assoc R, ⊕-comm R, ⊕-neg-cancel R N) (⊠-quotient-at (tail U) k)
 
     pub ⊠-quotient : (U : Series A) → quotient (U ⊠ Q) Q ≡ U
     ⊠-quotient U = fun-ext (⊠-quotient-at U)
