@@ -9,6 +9,9 @@ pub mod Frobenius
 pub mod Fermat
 pub mod Spread
 pub mod Parts
+pub mod Taylor
+pub mod Vanishing
+pub mod Valuation
 pub mod Semiring
 pub mod Negation
 pub mod Power

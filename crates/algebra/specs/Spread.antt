@@ -1,6 +1,6 @@
 -- Spreading: a(x^p) of a series a, for p above 0. Assumes nothing.
 --
---   spread R p a        a(x^p): a_(k/p) at the places k that p divides, 𝟘 at the others
+--   spread R p a        a(x^p): a_(k/p) at the places k that p divides, 𝟘 at the others; `spread-at` opens it
 --   spread-naturals     it is the spreading of the definitions, over the natural numbers
 --   spread-agree        below n it depends on a only below ⌈n/p⌉
 --   coefficients-spread homomorphisms of the coefficients commute with it
@@ -12,7 +12,7 @@
 --   residues-power-spread   g(x)^p is g(x^p) modulo p
 use Prim.Native.Nat.{ℕ, zero, suc, _+_, _/_, _%_, _<_}
 use mathlib.Core.Bool.{cond, true, false, Bool}
-use mathlib.Core.Path.{_≡_, refl, sym, ap, fun-ext, _∙_}
+use mathlib.Core.Path.{_≡_, refl, ap, fun-ext, _∙_}
 use lib.Dec.{eqb, eqb·suc-zero}
 use native.Mathlib.Decide.{decLt}
 use native.Mathlib.Nat.{add-div-left, add-mod-left, div-mul-le-self, le-dest, mod-eq-of-lt, zero-div, zero-mod}
@@ -27,8 +27,28 @@ use Rattle.algebra.specs.Natural.{natural}
 use Rattle.algebra.specs.Power.{power, power-⊗}
 use Rattle.algebra.specs.Residue.{Residue, residues, residues-characteristic}
 use Rattle.algebra.specs.Semiring.{Semiring, naturals, ⊕-𝟘, 𝟘-⊕, ⊗-𝟙}
-use Rattle.algebra.specs.Series.{Series, series, tail, constant, constant-0, constant-suc, indeterminate, decompose, 𝟙-constant, ⊞-at, power-⊠-above, power-⊠-below}
-use Rattle.algebra.specs.Substitution.{recursion-unique, substitute, substitute-horner, substitute-⊞, substitute-⊠, substitute-constant}
+use Rattle.algebra.specs.Series.{
+  Series,
+  series,
+  tail,
+  constant,
+  constant-0,
+  constant-suc,
+  indeterminate,
+  decompose,
+  𝟙-constant,
+  ⊞-at,
+  power-⊠-above,
+  power-⊠-below,
+}
+use Rattle.algebra.specs.Substitution.{
+  recursion-unique,
+  substitute,
+  substitute-horner,
+  substitute-⊞,
+  substitute-⊠,
+  substitute-constant,
+}
 use Rattle.definition.specs.Bernstein as Bernstein
 use Rattle.definition.specs.Lists.{ceilDiv}
 use Rattle.definition.specs.Prime.{Prime}
@@ -51,7 +71,9 @@ module _ {A : Type 0} (R : Semiring A) (p : ℕ) where
 
   module _ (l : 0 < p) where
     pub spread-agree : {n : ℕ} {a b : Series A} → Agree (ceilDiv n p) a b → Agree n (spread a) (spread b)
-    spread-agree {n} h k u = rw (spread-at, spread-at, h (k / p) (ceilDiv-below l n (k / p) .1 (omega (arith, div-mul-le-self k p))))
+    spread-agree {n} h k u =
+        let b : k / p < ceilDiv n p = ceilDiv-below l n (k / p) .1 (omega (arith, div-mul-le-self k p)) in
+        rw (spread-at, spread-at, h (k / p) b)
 
     spread-low : (a : Series A) (k : ℕ) → k < p → spread a k ≡ constant R (a 0) k
     spread-low a zero u = rw (spread-at, zero-mod, zero-div, constant-0 R)
