@@ -1,0 +1,80 @@
+-- Windows, degrees and cuts of a series. Assumes nothing.
+--
+--   window e a            the powers from e on, moved down to 0
+--   ⊠-window              the window of a product is the product with a window, if the other factor has no powers that reach below it
+--   Degree R m q a        a has no powers from q + 1 to m - 1
+--   ⊠-degree              the degree of a product
+--   cut R n a             a below n, 𝟘 from n on
+--   cut-below cut-beyond  these two equations
+--   cut-equal             series that agree below n have the same cut
+--   cut-constant          a constant is its own cut
+use Prim.Native.Nat.{ℕ, zero, suc, _+_, _-_, _<_, _≤_}
+use borrow.Author.Tests.{lt-ltb, le-ltb}
+use lib.Dec.{ltb}
+use mathlib.Core.Bool.{cond}
+use mathlib.Core.Path.{_≡_, sym, ap, fun-ext, _∙_}
+use native.Mathlib.Decide.{decLe, decLt}
+use native.Mathlib.Nat.{suc-add, zero-add}
+use native.Mathlib.Omega.{arith}
+use Rattle.algebra.specs.Agree.{Agree}
+use Rattle.algebra.specs.Semiring.{Semiring, ⊗-𝟘, 𝟘-⊗, 𝟘-⊕}
+use Rattle.algebra.specs.Series.{Series, series, constant, constant-suc, tail, ⊠-at, ⊠-suc}
+use Rattle.algebra.specs.Sum.{sum-𝟘}
+
+abbrev pub window : {A : Type 0} → ℕ → Series A → Series A
+window e a = λ j. a (e + j)
+
+module _ {A : Type 0} (R : Semiring A) where
+  open Semiring R using (𝟘, _⊗_)
+  open Semiring (series R) using (_⊗_ as _⊠_)
+
+  infixl 60 _⊠_
+  abbrev pub Degree : ℕ → ℕ → Series A → Type 0
+  Degree m q a = (i : ℕ) → q < i → i < m → a i ≡ 𝟘
+
+  pub ⊠-window : (e k : ℕ) (a b : Series A) → ((i : ℕ) → k < i → i ≤ e + k → b i ≡ 𝟘)
+      → (a ⊠ b) (e + k) ≡ (window e a ⊠ b) k
+  ⊠-window zero k a b v = rw zero-add (ap (λ s. (s ⊠ b) k) (fun-ext λ j. ap a (sym (zero-add j))))
+  ⊠-window (suc e) k a b v =
+      rw (
+        suc-add,
+        ⊠-suc R,
+        v (suc (e + k)) (omega arith) (omega arith),
+        ⊗-𝟘 R,
+        𝟘-⊕ R,
+        ⊠-window e k (tail a) b (λ i l u. v i l (omega arith)),
+      )
+      (ap (λ s. (s ⊠ b) k) (fun-ext λ j. ap a (sym (suc-add e j))))
+
+  pub ⊠-degree : (m p q : ℕ) (a b : Series A) → Degree m p a → Degree m q b → Degree m (p + q) (a ⊠ b)
+  ⊠-degree m p q a b g h k l u = ⊠-at R a b k ∙ sum-𝟘 R (suc k) _ (λ i s. at i s (decLe i p))
+    where
+      at : (i : ℕ) → i < suc k → Dec (i ≤ p) → a i ⊗ b (k - i) ≡ 𝟘
+      at i s (yes t) = rw (h (k - i) (omega arith) (omega arith), ⊗-𝟘 R)
+      at i s (no t) = rw (g i (omega arith) (omega arith), 𝟘-⊗ R)
+
+  unfoldable pub cut : ℕ → Series A → Series A
+  cut n a k = cond (ltb k n) (a k) 𝟘
+
+  pub cut-below : (n : ℕ) (a : Series A) → Agree n (cut n a) a
+  unfolding cut
+  cut-below n a k l = rw lt-ltb
+
+  pub cut-beyond : (n : ℕ) (a : Series A) (k : ℕ) → n ≤ k → cut n a k ≡ 𝟘
+  unfolding cut
+  cut-beyond n a k l = rw le-ltb
+
+  pub cut-equal : {n : ℕ} {a b : Series A} → Agree n a b → cut n a ≡ cut n b
+  cut-equal {n} {a} {b} h = fun-ext λ k. at k (decLt k n)
+    where
+      at : (k : ℕ) → Dec (k < n) → cut n a k ≡ cut n b k
+      at k (yes l) = rw (cut-below n a k l, cut-below n b k l) (h k l)
+      at k (no l) = rw (cut-beyond n a k (omega arith), cut-beyond n b k (omega arith))
+
+  pub cut-constant : {n : ℕ} → 0 < n → (c : A) → cut n (constant R c) ≡ constant R c
+  cut-constant {n} l c = fun-ext λ k. at k (decLt k n)
+    where
+      at : (k : ℕ) → Dec (k < n) → cut n (constant R c) k ≡ constant R c k
+      at k (yes b) = cut-below n (constant R c) k b
+      at zero (no b) = absurd (b l)
+      at (suc k) (no b) = cut-beyond n (constant R c) (suc k) (omega arith) ∙ sym (constant-suc R c k)
