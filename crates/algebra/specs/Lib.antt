@@ -16,3 +16,4 @@ pub mod Agree
 pub mod Homomorphism
 pub mod Evaluate
 pub mod Substitution
+pub mod Derivative

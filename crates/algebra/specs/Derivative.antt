@@ -1,0 +1,90 @@
+-- The formal derivative of a series. Assumes nothing.
+--
+--   derivative R a        a': coefficient k is (k + 1) a_(k+1)
+use Prim.Native.Nat.{ℕ, zero, suc, _+_}
+use mathlib.Core.Path.{_≡_, refl, sym, ap, fun-ext, _∙_}
+use native.Mathlib.Nat.{lt-suc-self}
+use native.Mathlib.Omega.{arith}
+use Rattle.algebra.specs.Agree.{Agree, Vanish, agree-equal, agree-refl, agree-sym, agree-trans, agree-⊞, agree-⊠, vanish-agree-⊠, vanish-⊠}
+use Rattle.algebra.specs.Natural.{natural, natural-0, natural-1, natural-suc}
+use Rattle.algebra.specs.Negation.{Negation, ⊗-neg}
+use Rattle.algebra.specs.Semiring.{Semiring, ring, ⊕-𝟘, 𝟘-⊕, ⊗-𝟘, ⊗-⊕, ⊕-⊗, ⊗-assoc, ⊗-left-comm, ⊗-𝟙, 𝟙-⊗, ⊕-comm}
+use Rattle.algebra.specs.Series.{Series, series, series-negation, neg-at, tail, shift, shift-0, shift-suc, equal-by-tail, constant, constant-0, constant-suc, constant-⊠-at, indeterminate, indeterminate-0, indeterminate-⊠, decompose, 𝟘-at, 𝟙-constant, ⊞-at}
+use Rattle.algebra.specs.Substitution.{recursion-unique, substitute, substitute-horner, substitute-⊞, substitute-⊠, substitute-indeterminate}
+
+module _ {A : Type 0} (R : Semiring A) where
+  open Semiring R using (𝟘, 𝟙, _⊕_, _⊗_)
+  open Semiring (series R) using (𝟘 as 𝟘ˢ, 𝟙 as 𝟙ˢ, _⊕_ as _⊞_, _⊗_ as _⊠_)
+
+  infixl 50 _⊞_
+  infixl 60 _⊠_
+  pub derivative : Series A → Series A
+  derivative a k = natural R (suc k) ⊗ a (suc k)
+
+  pub derivative-at : (a : Series A) (k : ℕ) → derivative a k ≡ natural R (suc k) ⊗ a (suc k)
+  unfolding derivative
+  derivative-at a k = refl
+
+  pub derivative-agree : {n : ℕ} {a b : Series A} → Agree (suc n) a b → Agree n (derivative a) (derivative b)
+  derivative-agree h k l = rw (derivative-at, derivative-at, h (suc k) (omega arith))
+
+  pub derivative-vanish : {n : ℕ} {a : Series A} → Vanish R (suc n) a → Vanish R n (derivative a)
+  derivative-vanish h k l = rw (derivative-at, h (suc k) (omega arith), ⊗-𝟘 R)
+
+  pub derivative-⊞ : (a b : Series A) → derivative (a ⊞ b) ≡ derivative a ⊞ derivative b
+  derivative-⊞ a b = fun-ext λ k. simp (derivative-at, ⊞-at R, ⊗-⊕ R)
+
+  pub derivative-neg : (N : Negation R) (a : Series A)
+      → derivative (series-negation R N .neg a) ≡ series-negation R N .neg (derivative a)
+  derivative-neg N a = fun-ext λ k. simp (derivative-at, neg-at R N, ⊗-neg R N)
+
+  pub derivative-constant-⊠ : (c : A) (a : Series A) → derivative (constant R c ⊠ a) ≡ constant R c ⊠ derivative a
+  derivative-constant-⊠ c a = fun-ext λ k. simp (derivative-at, constant-⊠-at R, ⊗-left-comm R)
+
+  pub derivative-constant : (c : A) → derivative (constant R c) ≡ 𝟘ˢ
+  derivative-constant c = fun-ext λ k. simp (derivative-at, constant-suc R, ⊗-𝟘 R, 𝟘-at R)
+
+  pub derivative-indeterminate-⊠ : (a : Series A)
+      → derivative (indeterminate R ⊠ a) ≡ a ⊞ indeterminate R ⊠ derivative a
+  derivative-indeterminate-⊠ a =
+      rw (indeterminate-⊠ R, indeterminate-⊠ R)
+      (equal-by-tail
+      (rw (derivative-at, ⊞-at R, shift-0 R, shift-suc R, natural-1 R, 𝟙-⊗ R, ⊕-𝟘 R))
+      (λ k. rw (derivative-at, ⊞-at R, shift-suc R, shift-suc R, derivative-at, natural-suc R (suc k), ⊕-⊗ R, 𝟙-⊗ R, ⊕-comm R)))
+
+  pub derivative-indeterminate : derivative (indeterminate R) ≡ 𝟙ˢ
+  derivative-indeterminate =
+      ap derivative (sym (⊗-𝟙 (series R) (indeterminate R)))
+      ∙ rw (derivative-indeterminate-⊠, 𝟙-constant R, derivative-constant, ⊗-𝟘 (series R), ⊕-𝟘 (series R))
+
+  pub derivative-decompose : (a : Series A) → derivative a ≡ tail a ⊞ indeterminate R ⊠ derivative (tail a)
+  derivative-decompose a =
+      ap derivative (decompose R a) ∙ rw (derivative-⊞, derivative-constant, derivative-indeterminate-⊠, 𝟘-⊕ (series R))
+
+  pub derivative-⊠ : (a b : Series A) → derivative (a ⊠ b) ≡ derivative a ⊠ b ⊞ a ⊠ derivative b
+  derivative-⊠ a b =
+      recursion-unique R (indeterminate R) (indeterminate-0 R)
+      (λ a. tail a ⊠ b ⊞ constant R (a 0) ⊠ derivative b)
+      tail
+      (λ a. derivative (a ⊠ b))
+      (λ a. derivative a ⊠ b ⊞ a ⊠ derivative b)
+      (λ a. ap (λ s. derivative (s ⊠ b)) (decompose R a)
+      ∙ rw (⊕-⊗ (series R), ⊗-assoc (series R), derivative-⊞, derivative-constant-⊠, derivative-indeterminate-⊠) (simp ring))
+      (λ a. rw (derivative-decompose a) (ap (λ s. (tail a ⊞ indeterminate R ⊠ derivative (tail a)) ⊠ b ⊞ s ⊠ derivative b) (decompose R a) ∙ simp ring))
+      a
+
+  module _ (u : Series A) (free : u 0 ≡ 𝟘) where
+    pub derivative-substitute : (a : Series A)
+        → derivative (substitute R a u) ≡ substitute R (derivative a) u ⊠ derivative u
+    derivative-substitute = recursion-unique R u free
+      (λ a. substitute R (tail a) u ⊠ derivative u)
+      tail
+      (λ a. derivative (substitute R a u))
+      (λ a. substitute R (derivative a) u ⊠ derivative u)
+      (λ a. rw (substitute-horner R u free a, derivative-⊞, derivative-constant, derivative-⊠) (simp ring))
+      (λ a. rw (derivative-decompose a, substitute-⊞ R, substitute-⊠ R u free, substitute-indeterminate R u free) (simp ring))
+
+    module _ {n : ℕ} (δ : Series A) (small : Vanish R (suc n) δ) where
+      pub substitute-expand : (a : Series A)
+        → Agree (suc n + suc n) (substitute R a (u ⊞ δ)) (substitute R a u ⊞ substitute R (derivative a) u ⊠ δ)
+      substitute-expand = ?
