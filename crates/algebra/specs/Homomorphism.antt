@@ -17,26 +17,10 @@ use mathlib.Core.Path.{_≡_, refl, sym, fun-ext, _∙_}
 use Rattle.algebra.specs.Negation.{Negation, neg-unique}
 use Rattle.algebra.specs.Power.{power, power-0, power-suc}
 use Rattle.algebra.specs.Semiring.{Semiring, ⊕-𝟘, ⊗-𝟘}
-use Rattle.algebra.specs.Series.{
-  Series,
-  series,
-  tail,
-  constant,
-  constant-0,
-  constant-suc,
-  constant-⊠-at,
-  indeterminate,
-  𝟘-at,
-  𝟙-constant,
-  ⊞-at,
-  ⊠-0,
-  ⊠-suc,
-  shift,
-  shift-0,
-  shift-suc,
-  equal-by-tail,
-  indeterminate-shift,
-}
+use Rattle.algebra.specs.Series.{Series, series, tail, constant, constant-0}
+use Rattle.algebra.specs.Series.{constant-suc, constant-⊠-at, indeterminate, 𝟘-at}
+use Rattle.algebra.specs.Series.{𝟙-constant, ⊞-at, ⊠-0, ⊠-suc, shift, shift-0}
+use Rattle.algebra.specs.Series.{shift-suc, equal-by-tail, indeterminate-shift}
 use Rattle.algebra.specs.Sum.{sum, sum-0, sum-suc}
 
 pub record Homomorphism {A B : Type 0} (R : Semiring A) (S : Semiring B) : Type 0 where
@@ -50,12 +34,12 @@ module _ {A B : Type 0} {R : Semiring A} {S : Semiring B} (φ : Homomorphism R S
   open Homomorphism φ using (map, map-𝟘, map-𝟙, map-⊕, map-⊗)
 
   pub map-power : (a : A) (k : ℕ) → map (power R a k) ≡ power S (map a) k
-  map-power a zero = rw (power-0 R, power-0 S, map-𝟙)
-  map-power a (suc k) = rw (power-suc R, power-suc S, map-⊗, map-power a k)
+  map-power a zero = rw (power-0, power-0, map-𝟙)
+  map-power a (suc k) = rw (power-suc, power-suc, map-⊗, map-power a k)
 
   pub map-sum : (n : ℕ) (f : ℕ → A) → map (sum R n f) ≡ sum S n (λ i. map (f i))
-  map-sum zero f = rw (sum-0 R, sum-0 S, map-𝟘)
-  map-sum (suc n) f = rw (sum-suc R, sum-suc S, map-⊕, map-sum n f)
+  map-sum zero f = rw (sum-0, sum-0, map-𝟘)
+  map-sum (suc n) f = rw (sum-suc, sum-suc, map-⊕, map-sum n f)
 
   pub map-neg : (N : Negation R) (M : Negation S) (a : A) → map (N .neg a) ≡ M .neg (map a)
   map-neg N M a = neg-unique S M (map a) (map (N .neg a)) (rw (← map-⊕ a (N .neg a), N .⊕-neg) map-𝟘)
@@ -69,32 +53,32 @@ module _ {A B : Type 0} {R : Semiring A} {S : Semiring B} (φ : Homomorphism R S
 
   pub coefficients-constant : (c : A) → coefficients (constant R c) ≡ constant S (map c)
   coefficients-constant c = equal-by-tail
-      (rw (coefficients-at, constant-0 R, constant-0 S))
-      (λ k. rw (coefficients-at, constant-suc R, constant-suc S, map-𝟘))
+      (rw (coefficients-at, constant-0, constant-0))
+      (λ k. rw (coefficients-at, constant-suc, constant-suc, map-𝟘))
 
   pub coefficients-shift : (a : Series A) → coefficients (shift R a) ≡ shift S (coefficients a)
   coefficients-shift a = equal-by-tail
-      (rw (coefficients-at, shift-0 R, shift-0 S, map-𝟘))
-      (λ k. rw (coefficients-at, shift-suc R, shift-suc S, coefficients-at))
+      (rw (coefficients-at, shift-0, shift-0, map-𝟘))
+      (λ k. rw (coefficients-at, shift-suc, shift-suc, coefficients-at))
 
   pub map-⊠ : (a b : Series A) (k : ℕ)
       → map (series R ._⊗_ a b k) ≡ series S ._⊗_ (coefficients a) (coefficients b) k
   unfolding coefficients
-  map-⊠ a b zero = rw (⊠-0 R, ⊠-0 S, map-⊗)
-  map-⊠ a b (suc k) = rw (⊠-suc R, ⊠-suc S, map-⊕, map-⊗, map-⊠ (tail a) b k)
+  map-⊠ a b zero = rw (⊠-0, ⊠-0, map-⊗)
+  map-⊠ a b (suc k) = rw (⊠-suc, ⊠-suc, map-⊕, map-⊗, map-⊠ (tail a) b k)
 
   abbrev pub coefficientwise : Homomorphism (series R) (series S)
   coefficientwise = record {
     map = coefficients;
-    map-𝟘 = fun-ext λ k. rw (coefficients-at, 𝟘-at R, 𝟘-at S, map-𝟘);
-    map-𝟙 = rw (𝟙-constant R, 𝟙-constant S, coefficients-constant, map-𝟙);
-    map-⊕ = λ a b. fun-ext λ k. simp (coefficients-at, ⊞-at R, ⊞-at S, map-⊕);
+    map-𝟘 = fun-ext λ k. rw (coefficients-at, 𝟘-at, 𝟘-at, map-𝟘);
+    map-𝟙 = rw (𝟙-constant, 𝟙-constant, coefficients-constant, map-𝟙);
+    map-⊕ = λ a b. fun-ext λ k. simp (coefficients-at, ⊞-at, map-⊕);
     map-⊗ = λ a b. fun-ext λ k. coefficients-at (series R ._⊗_ a b) k ∙ map-⊠ a b k;
   }
 
   pub coefficients-indeterminate : coefficients (indeterminate R) ≡ indeterminate S
   coefficients-indeterminate =
-      rw (indeterminate-shift R, indeterminate-shift S, coefficients-shift, coefficientwise .map-𝟙)
+      rw (indeterminate-shift, indeterminate-shift, coefficients-shift, coefficientwise .map-𝟙)
 
 module _ {A B C : Type 0} {R : Semiring A} {S : Semiring B} {T : Semiring C} where
   abbrev pub composite : Homomorphism S T → Homomorphism R S → Homomorphism R T
@@ -107,23 +91,29 @@ module _ {A B C : Type 0} {R : Semiring A} {S : Semiring B} {T : Semiring C} whe
   }
 
 module _ {A : Type 0} (R : Semiring A) where
+  infixl 50 _⊞_
+  infixl 60 _⊠_
   open Semiring R using (𝟘, 𝟙, _⊕_, _⊗_)
   open Semiring (series R) using (𝟘 as 𝟘ˢ, _⊕_ as _⊞_, _⊗_ as _⊠_)
 
-  infixl 50 _⊞_
-  infixl 60 _⊠_
   abbrev pub identity : Homomorphism R R
-  identity = record { map = λ a. a; map-𝟘 = refl; map-𝟙 = refl; map-⊕ = λ a b. refl; map-⊗ = λ a b. refl }
+  identity = record {
+    map = λ a. a;
+    map-𝟘 = refl;
+    map-𝟙 = refl;
+    map-⊕ = λ a b. refl;
+    map-⊗ = λ a b. refl;
+  }
 
   pub constant-𝟘 : constant R 𝟘 ≡ 𝟘ˢ
-  constant-𝟘 = equal-by-tail (rw (constant-0 R, 𝟘-at R)) (λ k. rw (constant-suc R, 𝟘-at R))
+  constant-𝟘 = equal-by-tail (rw (constant-0, 𝟘-at)) (λ k. rw (constant-suc, 𝟘-at))
 
   pub constant-⊕ : (a b : A) → constant R (a ⊕ b) ≡ constant R a ⊞ constant R b
-  constant-⊕ a b = equal-by-tail (simp (⊞-at R, constant-0 R)) (λ k. simp (⊞-at R, constant-suc R, ⊕-𝟘 R))
+  constant-⊕ a b = equal-by-tail (simp (⊞-at, constant-0)) (λ k. simp (⊞-at, constant-suc, ⊕-𝟘))
 
   pub constant-⊗ : (a b : A) → constant R (a ⊗ b) ≡ constant R a ⊠ constant R b
   constant-⊗ a b = equal-by-tail
-      (simp (constant-⊠-at R, constant-0 R)) (λ k. simp (constant-⊠-at R, constant-suc R, ⊗-𝟘 R))
+      (simp (constant-⊠-at, constant-0)) (λ k. simp (constant-⊠-at, constant-suc, ⊗-𝟘))
 
   abbrev pub constants : Homomorphism R (series R)
   constants = record {
@@ -138,7 +128,7 @@ module _ {A : Type 0} (R : Semiring A) where
   constant-term = record {
     map = λ a. a 0;
     map-𝟘 = 𝟘-at R 0;
-    map-𝟙 = rw (𝟙-constant R) (constant-0 R 𝟙);
+    map-𝟙 = rw 𝟙-constant (constant-0 R 𝟙);
     map-⊕ = λ a b. ⊞-at R a b 0;
     map-⊗ = ⊠-0 R;
   }
