@@ -77,14 +77,14 @@ module _ {A : Type 0} (R : Semiring A) where
     pub derivative-substitute : (a : Series A)
         → derivative (substitute R a u) ≡ substitute R (derivative a) u ⊠ derivative u
     derivative-substitute = recursion-unique R u free
-      (λ a. substitute R (tail a) u ⊠ derivative u)
-      tail
-      (λ a. derivative (substitute R a u))
-      (λ a. substitute R (derivative a) u ⊠ derivative u)
-      (λ a. rw (substitute-horner R u free a, derivative-⊞, derivative-constant, derivative-⊠) (simp ring))
-      (λ a. rw (derivative-decompose a, substitute-⊞ R, substitute-⊠ R u free, substitute-indeterminate R u free) (simp ring))
+        (λ a. substitute R (tail a) u ⊠ derivative u)
+        tail
+        (λ a. derivative (substitute R a u))
+        (λ a. substitute R (derivative a) u ⊠ derivative u)
+        (λ a. rw (substitute-horner R u free a, derivative-⊞, derivative-constant, derivative-⊠) (simp ring))
+        (λ a. rw (derivative-decompose a, substitute-⊞ R, substitute-⊠ R u free, substitute-indeterminate R u free) (simp ring))
 
     module _ {n : ℕ} (δ : Series A) (small : Vanish R (suc n) δ) where
       pub substitute-expand : (a : Series A)
-        → Agree (suc n + suc n) (substitute R a (u ⊞ δ)) (substitute R a u ⊞ substitute R (derivative a) u ⊠ δ)
+          → Agree (suc n + suc n) (substitute R a (u ⊞ δ)) (substitute R a u ⊞ substitute R (derivative a) u ⊠ δ)
       substitute-expand = ?
