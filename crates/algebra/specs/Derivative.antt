@@ -10,7 +10,14 @@ use Rattle.algebra.specs.Natural.{natural, natural-0, natural-1, natural
 use Rattle.algebra.specs.Negation.{Negation, ⊗-neg}
 use Rattle.algebra.specs.Semiring.{Semiring, ring, ⊕-𝟘, 𝟘-⊕, ⊗-𝟘, ⊗-⊕, ⊕-⊗, ⊗-assoc, ⊗-left-comm, ⊗-𝟙, 𝟙-⊗, ⊕-comm}
 use Rattle.algebra.specs.Series.{Series, series, series-negation, neg-at, tail, shift, shift-0, shift-suc, equal-by-tail, constant, constant-0, constant-suc, constant-⊠-at, indeterminate, indeterminate-0, indeterminate-⊠, decompose, 𝟘-at, 𝟙-constant, ⊞-at}
-use Rattle.algebra.specs.Substitution.{recursion-unique, substitute, substitute-horner, substitute-⊞, substitute-⊠, substitute-indeterminate}
+use Rattle.algebra.specs.Substitution.{recursion-agree, recursion-unique, substitute, substitute-horner, substitute-⊞, substitute-⊠, substitute-indeterminate}
+
+module _ {A : Type 0} (R : Semiring A) where
+  open Semiring R using (_⊕_, _⊗_)
+
+  expand-identity : (c u δ s d : A)
+      → c ⊕ (u ⊕ δ) ⊗ (s ⊕ d ⊗ δ) ≡ c ⊕ u ⊗ s ⊕ (s ⊕ u ⊗ d) ⊗ δ ⊕ δ ⊗ δ ⊗ d
+  expand-identity c u δ s d = simp ring
 
 module _ {A : Type 0} (R : Semiring A) where
   open Semiring R using (𝟘, 𝟙, _⊕_, _⊗_)
@@ -18,6 +25,12 @@ module _ {A : Type 0} (R : Semiring A) where
 
   infixl 50 _⊞_
   infixl 60 _⊠_
+  pub agree-⊞-vanish : {n : ℕ} (a : Series A) {b : Series A} → Vanish R n b → Agree n (a ⊞ b) a
+  agree-⊞-vanish a v k l = rw (⊞-at, v k l, ⊕-𝟘)
+
+  pub vanish-multiple : {n : ℕ} {a : Series A} (b : Series A) → Vanish R n a → Vanish R n (a ⊠ b)
+  vanish-multiple {n} b v k l = vanish-⊠ R n 0 v (λ i m. absurd (omega arith)) k (omega arith)
+
   pub derivative : Series A → Series A
   derivative a k = natural R (suc k) ⊗ a (suc k)
 
@@ -84,7 +97,24 @@ module _ {A : Type 0} (R : Semiring A) where
         (λ a. rw (substitute-horner R u free a, derivative-⊞, derivative-constant, derivative-⊠) (simp ring))
         (λ a. rw (derivative-decompose a, substitute-⊞ R, substitute-⊠ R u free, substitute-indeterminate R u free) (simp ring))
 
-    module _ {n : ℕ} (δ : Series A) (small : Vanish R (suc n) δ) where
-      pub substitute-expand : (a : Series A)
-          → Agree (suc n + suc n) (substitute R a (u ⊞ δ)) (substitute R a u ⊞ substitute R (derivative a) u ⊠ δ)
-      substitute-expand = ?
+    expand-horner : (δ a : Series A)
+        → constant R (a 0) ⊞ (u ⊞ δ) ⊠ (substitute R (tail a) u ⊞ substitute R (derivative (tail a)) u ⊠ δ)
+        ≡ substitute R a u ⊞ substitute R (derivative a) u ⊠ δ ⊞ δ ⊠ δ ⊠ substitute R (derivative (tail a)) u
+    expand-horner δ a =
+        rw (
+          substitute-horner R u free a,
+          derivative-decompose a,
+          substitute-⊞ R (tail a),
+          substitute-⊠ R u free,
+          substitute-indeterminate R u free,
+        )
+        (expand-identity (series R) (constant R (a 0)) u δ (substitute R (tail a) u) (substitute R (derivative (tail a)) u))
+
+    pub substitute-expand : {n : ℕ} {δ : Series A} → Vanish R (suc n) δ → (a : Series A)
+        → Agree (suc n + suc n) (substitute R a (u ⊞ δ)) (substitute R a u ⊞ substitute R (derivative a) u ⊠ δ)
+    substitute-expand {n} {δ} v =
+        let e : (u ⊞ δ) 0 ≡ 𝟘 = rw (⊞-at, free, v 0 (omega arith), ⊕-𝟘) in
+        recursion-agree R (u ⊞ δ) e (λ a. constant R (a 0)) tail
+        (λ a. substitute R a (u ⊞ δ)) (λ a. substitute R a u ⊞ substitute R (derivative a) u ⊠ δ) (suc n + suc n)
+        (λ a. agree-equal (substitute-horner R (u ⊞ δ) e a))
+        (λ a. agree-sym (rw (expand-horner δ a) (agree-⊞-vanish _ (vanish-multiple _ (vanish-⊠ R (suc n) (suc n) v v)))))
