@@ -38,6 +38,9 @@ module _ {A : Type 0} (R : Semiring A) where
   unfolding derivative
   derivative-at a k = refl
 
+  pub derivative-0 : (a : Series A) → derivative a 0 ≡ a 1
+  derivative-0 a = rw (derivative-at, natural-1 R, 𝟙-⊗)
+
   pub derivative-agree : {n : ℕ} {a b : Series A} → Agree (suc n) a b → Agree n (derivative a) (derivative b)
   derivative-agree h k l = rw (derivative-at, derivative-at, h (suc k) (omega arith))
 

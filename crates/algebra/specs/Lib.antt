@@ -17,3 +17,4 @@ pub mod Homomorphism
 pub mod Evaluate
 pub mod Substitution
 pub mod Derivative
+pub mod Reversion
