@@ -2,13 +2,17 @@
 --
 --   derivative R a        a': coefficient k is (k + 1) a_(k+1)
 use Prim.Native.Nat.{ℕ, zero, suc, _+_}
+use lib.ListN.{getD}
+use mathlib.Core.List.{List, [], _∷_}
 use mathlib.Core.Path.{_≡_, refl, sym, ap, fun-ext, _∙_}
-use native.Mathlib.Nat.{lt-suc-self}
+use native.Mathlib.Nat.{add-suc, add-zero, suc-add, zero-add}
 use native.Mathlib.Omega.{arith}
 use Rattle.algebra.specs.Agree.{Agree, Vanish, agree-equal, agree-refl, agree-sym, agree-trans, agree-⊞, agree-⊠, vanish-agree-⊠, vanish-⊠}
+use Rattle.algebra.specs.Evaluate.{evaluate, evaluate-[], evaluate-∷, evaluate-⊕, polynomial}
+use Rattle.algebra.specs.Homomorphism.{Homomorphism, constant-𝟘, constants}
 use Rattle.algebra.specs.Natural.{natural, natural-0, natural-1, natural-suc}
 use Rattle.algebra.specs.Negation.{Negation, ⊗-neg}
-use Rattle.algebra.specs.Semiring.{Semiring, ring, ⊕-𝟘, 𝟘-⊕, ⊗-𝟘, ⊗-⊕, ⊕-⊗, ⊗-assoc, ⊗-left-comm, ⊗-𝟙, 𝟙-⊗, ⊕-comm}
+use Rattle.algebra.specs.Semiring.{Semiring, ring, ⊕-𝟘, 𝟘-⊕, ⊗-𝟘, 𝟘-⊗, ⊗-⊕, ⊕-⊗, ⊗-assoc, ⊗-left-comm, ⊗-𝟙, 𝟙-⊗, ⊕-comm}
 use Rattle.algebra.specs.Series.{Series, series, series-negation, neg-at, tail, shift, shift-0, shift-suc, equal-by-tail, constant, constant-0, constant-suc, constant-⊠-at, indeterminate, indeterminate-0, indeterminate-⊠, decompose, 𝟘-at, 𝟙-constant, ⊞-at}
 use Rattle.algebra.specs.Substitution.{recursion-agree, recursion-unique, substitute, substitute-horner, substitute-⊞, substitute-⊠, substitute-indeterminate}
 
@@ -121,3 +125,58 @@ module _ {A : Type 0} (R : Semiring A) where
         (λ a. substitute R a (u ⊞ δ)) (λ a. substitute R a u ⊞ substitute R (derivative a) u ⊠ δ) (suc n + suc n)
         (λ a. agree-equal (substitute-horner R (u ⊞ δ) e a))
         (λ a. agree-sym (rw (expand-horner δ a) (agree-⊞-vanish _ (vanish-multiple _ (vanish-⊠ R (suc n) (suc n) v v)))))
+
+  -- (n + 1) x_0, (n + 2) x_1, ..
+  multiples : ℕ → List A → List A
+  multiples n [] = []
+  multiples n (x ∷ xs) = (natural R (suc n) ⊗ x) ∷ multiples (suc n) xs
+
+  multiples-at : (n : ℕ) (xs : List A) (k : ℕ)
+      → getD (multiples n xs) k 𝟘 ≡ natural R (suc (n + k)) ⊗ getD xs k 𝟘
+  unfolding multiples
+  multiples-at n [] k = sym (⊗-𝟘 R (natural R (suc (n + k))))
+  multiples-at n (x ∷ xs) zero = rw add-zero
+  multiples-at n (x ∷ xs) (suc k) = rw (add-suc, ← suc-add n k) (multiples-at (suc n) xs k)
+
+  pub derivative-list : List A → List A
+  derivative-list [] = []
+  derivative-list (x ∷ xs) = multiples 0 xs
+
+  derivative-list-at : (xs : List A) (k : ℕ)
+      → getD (derivative-list xs) k 𝟘 ≡ natural R (suc k) ⊗ getD xs (suc k) 𝟘
+  unfolding derivative-list
+  derivative-list-at [] k = sym (⊗-𝟘 R (natural R (suc k)))
+  derivative-list-at (x ∷ xs) k = multiples-at 0 xs k ∙ rw zero-add
+
+  pub polynomial-derivative : (xs : List A) → polynomial R (derivative-list xs) ≡ derivative (polynomial R xs)
+  polynomial-derivative xs = fun-ext λ k. rw derivative-at (derivative-list-at xs k)
+
+  derivative-list-∷ : (x : A) (xs : List A) (i : ℕ)
+      → getD (derivative-list (x ∷ xs)) i 𝟘 ≡ getD xs i 𝟘 ⊕ getD (𝟘 ∷ derivative-list xs) i 𝟘
+  derivative-list-∷ x xs zero = rw (derivative-list-at (x ∷ xs) 0, natural-1 R, 𝟙-⊗, ⊕-𝟘)
+  derivative-list-∷ x xs (suc k) =
+      rw (derivative-list-at (x ∷ xs) (suc k), derivative-list-at xs k, natural-suc R (suc k), ⊕-⊗, 𝟙-⊗, ⊕-comm)
+
+module _ {A B : Type 0} {R : Semiring A} {S : Semiring B} (φ : Homomorphism R S) where
+  open Semiring S using (𝟘, _⊕_, _⊗_)
+
+  pub evaluate-derivative : (x : A) (xs : List A) (s : B)
+      → evaluate φ (derivative-list R (x ∷ xs)) s ≡ evaluate φ xs s ⊕ s ⊗ evaluate φ (derivative-list R xs) s
+  evaluate-derivative x xs s =
+      evaluate-⊕ φ xs (R .𝟘 ∷ derivative-list R xs) (derivative-list R (x ∷ xs)) s (derivative-list-∷ R x xs)
+      ∙ rw (evaluate-∷, φ .map-𝟘, 𝟘-⊕)
+
+  pub evaluate-expand : (xs : List A) (s δ : B)
+      → (r : B) × (evaluate φ xs (s ⊕ δ) ≡ evaluate φ xs s ⊕ evaluate φ (derivative-list R xs) s ⊗ δ ⊕ δ ⊗ δ ⊗ r)
+  unfolding derivative-list
+  evaluate-expand [] s δ = (𝟘, simp (evaluate-[], ring))
+  evaluate-expand (x ∷ xs) s δ =
+      let (r, e) = evaluate-expand xs s δ in
+      (evaluate φ (derivative-list R xs) s ⊕ (s ⊕ δ) ⊗ r,
+      rw (evaluate-∷, evaluate-∷, evaluate-derivative, e) (simp ring))
+
+pub derivative-evaluate : {A : Type 0} (R : Semiring A) (xs : List A) (s : Series A)
+    → derivative R (evaluate (constants R) xs s) ≡ series R ._⊗_ (evaluate (constants R) (derivative-list R xs) s) (derivative R s)
+unfolding derivative-list
+derivative-evaluate R [] s = rw (evaluate-[], 𝟘-⊗, ← constant-𝟘 R, derivative-constant, constant-𝟘 R)
+derivative-evaluate R (x ∷ xs) s = rw (evaluate-∷, derivative-⊞, derivative-constant, derivative-⊠, derivative-evaluate R xs s, evaluate-derivative) (simp ring)
