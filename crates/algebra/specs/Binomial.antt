@@ -5,7 +5,7 @@
 --   binomial-diagonal          C(n, n) is 1
 --   binomial-absorption        (k + 1) C(n + 1, k + 1) is (n + 1) C(n, k)
 --   binomial-prime             a prime p divides C(p, k) for 0 < k < p
---   binomial-term R a b n k m  C(n, k) a^k b^m
+--   binomial-term R a b n k m  C(n, k) a^k b^m; `binomial-term-at` opens it
 --   binomial-theorem           (a ⊕ b)^n is the sum of C(n, k) a^k b^(n - k) over k ≤ n
 use Prim.Native.Nat.{ℕ, zero, suc, _+_, _-_, _*_, _<_, _∣_}
 use mathlib.Core.Path.{_≡_, refl, sym, ap, _∙_}
@@ -90,12 +90,20 @@ module _ {A : Type 0} (R : Semiring A) (a b : A) where
       ≡ binomial-term n 0 (suc n - 0) ⊕ sum R (suc n) (λ k. binomial-term n (suc k) (suc n - suc k))
   times-b n =
       ⊗-sum R (suc n) b (λ k. binomial-term n k (n - k))
-      ∙ sum-cong R (suc n) (λ k. b ⊗ binomial-term n k (n - k)) (λ k. binomial-term n k (suc n - k)) (λ k l. term-times n k (n - k) ∙ ap (binomial-term n k) (omega arith))
+      ∙ sum-cong R (suc n) _ (λ k. binomial-term n k (suc n - k))
+      (λ k l. term-times n k (n - k) ∙ ap (binomial-term n k) (omega arith))
       ∙ sym (sum-suc R (suc n) (λ k. binomial-term n k (suc n - k)) ∙ rw (term-above n (suc n - suc n), ⊕-𝟘 R))
       ∙ sum-first R (suc n) (λ k. binomial-term n k (suc n - k))
 
   pub binomial-theorem : (n : ℕ) → power R (a ⊕ b) n ≡ sum R (suc n) (λ k. binomial-term n k (n - k))
   binomial-theorem zero = simp (sum-suc R 0, sum-0 R, binomial-term-at, power-0 R, binomial-0, natural-1 R, ring)
   binomial-theorem (suc n) =
-      rw (power-suc R, binomial-theorem n, ⊕-⊗ R, times-b n, ⊗-sum R, sum-first R (suc n) (λ k. binomial-term (suc n) k (suc n - k)))
+      rw (
+        power-suc R,
+        binomial-theorem n,
+        ⊕-⊗ R,
+        times-b n,
+        ⊗-sum R,
+        sum-first R (suc n) (λ k. binomial-term (suc n) k (suc n - k)),
+      )
       (simp (suc-sub-suc, term-first, term-suc, sum-⊕ R, ⊕-left-comm R))

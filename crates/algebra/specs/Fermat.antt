@@ -5,7 +5,7 @@
 --   fermat              the same of natural numbers: a^p and a have the same remainder
 --   fermat-one          a^(p - 1) has remainder 1 where p does not divide a
 --   inverse             a times a^(p - 2) has remainder 1 where p does not divide a
---   inverse-unique      two inverses of a have the same remainder, for any modulus
+--   inverse-unique      two inverses of a below p are equal, whether or not p is prime
 --   residue-inverse     the inverse of a residue that is not 𝟘
 use Prim.Native.Nat.{ℕ, suc, _-_, _*_, _%_, _^_, _<_, _∣_}
 use mathlib.Core.Logic.{_≢_}
@@ -18,7 +18,20 @@ use Rattle.algebra.specs.Natural.{map-natural}
 use Rattle.algebra.specs.Power.{power, power-suc}
 use Rattle.algebra.specs.Prime.{euclid, prime-positive}
 use Rattle.algebra.specs.Remainder.{mod-mul-mod, mul-mod-mod}
-use Rattle.algebra.specs.Residue.{Residue, residue, residues, residues-negation, residue-1, residue-*, residue-power, residue-equal, residue-own, natural-residue, residue-zero, residues-characteristic}
+use Rattle.algebra.specs.Residue.{
+  Residue,
+  residue,
+  residues,
+  residues-negation,
+  residue-1,
+  residue-*,
+  residue-power,
+  residue-equal,
+  residue-own,
+  natural-residue,
+  residue-zero,
+  residues-characteristic,
+}
 use Rattle.algebra.specs.Semiring.{Semiring, ⊗-𝟙}
 use Rattle.definition.specs.Prime.{Prime}
 

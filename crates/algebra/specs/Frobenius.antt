@@ -1,13 +1,20 @@
 -- The p-th power in a semiring in which the prime p is 𝟘. Assumes nothing.
 --
---   frobenius-⊕       (a ⊕ b)^p is a^p ⊕ b^p
+--   frobenius-⊕ frobenius-𝟘   (a ⊕ b)^p is a^p ⊕ b^p, and 𝟘^p is 𝟘
 --   frobenius         the p-th power is a homomorphism, so `map-sum` of it is the law for finite sums
 --   series-characteristic   p is 𝟘 among the series too
 use Prim.Native.Nat.{ℕ, suc, _+_, _-_, _<_, _∣_}
-use mathlib.Core.Path.{_≡_, sym, ap, _∙_, _≡⟨_⟩_, _∎}
+use mathlib.Core.Path.{_≡_, sym, ap, _∙_}
 use native.Mathlib.Nat.{mul-div-cancel', le-dest, suc-add, sub-self, sub-zero}
 use native.Mathlib.Omega.{arith}
-use Rattle.algebra.specs.Binomial.{binomial-0, binomial-diagonal, binomial-prime, binomial-term, binomial-term-at, binomial-theorem}
+use Rattle.algebra.specs.Binomial.{
+  binomial-0,
+  binomial-diagonal,
+  binomial-prime,
+  binomial-term,
+  binomial-term-at,
+  binomial-theorem,
+}
 use Rattle.algebra.specs.Homomorphism.{Homomorphism, constants}
 use Rattle.algebra.specs.Natural.{natural, natural-1, natural-*, map-natural}
 use Rattle.algebra.specs.Power.{power, power-0, power-𝟘, power-𝟙, power-⊗}
@@ -39,18 +46,26 @@ module _ {A : Type 0} (R : Semiring A) {p : ℕ} (P : Prime p) (c : natural R p 
   term-between : (a b : A) (k : ℕ) → 0 < k → k < p → term a b k ≡ 𝟘
   term-between a b k l u = rw (binomial-term-at R, natural-multiple (binomial p k) (binomial-prime P k l u), 𝟘-⊗ R)
 
-  pub frobenius-⊕ : (a b : A) → power R (a ⊕ b) p ≡ power R a p ⊕ power R b p
-  frobenius-⊕ a b =
+  terms-after-first : (a b : A) → sum R p (λ k. term a b (suc k)) ≡ power R a p
+  terms-after-first a b =
       let l : 1 < p = P .above-one in
       let e : suc (p - 1) ≡ p = omega arith in
-      power R (a ⊕ b) p ≡⟨ binomial-theorem R a b p ∙ sum-first R p (term a b) ⟩
-      term a b 0 ⊕ sum R p (λ k. term a b (suc k))
-      ≡⟨ ap (λ s. term a b 0 ⊕ s) (sum-single R p (p - 1) (λ k. term a b (suc k)) (omega arith) (λ k u z. term-between a b (suc k) (omega arith) (omega arith))) ⟩
-      term a b 0 ⊕ term a b (suc (p - 1)) ≡⟨ (rw (e, term-first, term-last, ⊕-comm R)) ⟩
-      power R a p ⊕ power R b p ∎
+      sum-single R p (p - 1) (λ k. term a b (suc k)) (omega arith)
+      (λ k u z. term-between a b (suc k) (omega arith) (omega arith))
+      ∙ rw (e, term-last)
+
+  pub frobenius-⊕ : (a b : A) → power R (a ⊕ b) p ≡ power R a p ⊕ power R b p
+  frobenius-⊕ a b =
+      binomial-theorem R a b p ∙ sum-first R p (term a b) ∙ rw (term-first a b, terms-after-first a b, ⊕-comm R)
 
   pub frobenius-𝟘 : power R 𝟘 p ≡ 𝟘
   frobenius-𝟘 = let (k, e) = le-dest (P .above-one) in rw (← e, suc-add) (power-𝟘 R (1 + k))
 
   abbrev pub frobenius : Homomorphism R R
-  frobenius = record { map = λ a. power R a p; map-𝟘 = frobenius-𝟘; map-𝟙 = power-𝟙 R p; map-⊕ = frobenius-⊕; map-⊗ = λ a b. power-⊗ R a b p }
+  frobenius = record {
+    map = λ a. power R a p;
+    map-𝟘 = frobenius-𝟘;
+    map-𝟙 = power-𝟙 R p;
+    map-⊕ = frobenius-⊕;
+    map-⊗ = λ a b. power-⊗ R a b p;
+  }

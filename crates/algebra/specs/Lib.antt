@@ -7,6 +7,11 @@ pub mod Residue
 pub mod Domain
 pub mod Frobenius
 pub mod Fermat
+pub mod Spread
+pub mod Parts
+pub mod Taylor
+pub mod Vanishing
+pub mod Valuation
 pub mod Semiring
 pub mod Negation
 pub mod Power

@@ -5,6 +5,7 @@
 --   natural-+ natural-*   sums and products of numbers
 --   naturals-into R   the homomorphism from the natural numbers into R
 --   map-natural       a homomorphism keeps the natural numbers
+--   natural-along     a homomorphism from the natural numbers takes n to n
 --   natural-naturals power-naturals   numbers and powers in the semiring of natural numbers itself
 use Prim.Native.Nat.{ℕ, zero, suc, _+_, _*_, _^_}
 use mathlib.Core.Path.{_≡_, refl}
@@ -57,6 +58,9 @@ map-natural {R} {S} φ (suc n) = rw (natural-suc R, natural-suc S, φ .map-⊕, 
 pub natural-naturals : (n : ℕ) → natural naturals n ≡ n
 natural-naturals zero = natural-0 naturals
 natural-naturals (suc n) = rw (natural-suc naturals, natural-naturals n, add-one)
+
+pub natural-along : {B : Type 0} {S : Semiring B} (φ : Homomorphism naturals S) (n : ℕ) → φ .map n ≡ natural S n
+natural-along φ n = rw (natural-naturals n) at (map-natural φ n)
 
 pub power-naturals : (a k : ℕ) → power naturals a k ≡ a ^ k
 power-naturals a zero = rw (power-0 naturals, pow-zero)

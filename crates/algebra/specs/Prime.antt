@@ -15,7 +15,24 @@ use mathlib.Core.Bool.{Bool, true, false, not, and-eq-true-iff}
 use mathlib.Core.Logic.{_≢_}
 use mathlib.Core.Path.{_≡_, refl, sym, ap, _∙_}
 use native.Mathlib.Decide.{decLe, decLt, ℕ-discrete}
-use native.Mathlib.Nat.{add-mul, div-add-mod', div-mul-cancel, dvd-add-iff-right, dvd-mul-left-of-dvd, dvd-mul-right, dvd-of-mod-eq-zero, le-of-dvd, mod-eq-zero-of-dvd, mod-lt, mul-assoc, mul-le-mul-left, mul-le-mul-right, mul-mod-right, one-mul, zero-mul}
+use native.Mathlib.Nat.{
+  add-mul,
+  div-add-mod',
+  div-mul-cancel,
+  dvd-add-iff-right,
+  dvd-mul-left-of-dvd,
+  dvd-mul-right,
+  dvd-of-mod-eq-zero,
+  le-of-dvd,
+  mod-eq-zero-of-dvd,
+  mod-lt,
+  mul-assoc,
+  mul-le-mul-left,
+  mul-le-mul-right,
+  mul-mod-right,
+  one-mul,
+  zero-mul,
+}
 use native.Mathlib.Omega.{arith}
 use Rattle.algebra.specs.Remainder.{mod-mul-mod}
 use Rattle.definition.specs.Prime.{Prime, isPrime, indivisible}

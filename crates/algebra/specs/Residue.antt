@@ -16,7 +16,25 @@ use Prim.Native.Nat.{ℕ, _+_, _-_, _*_, _%_, _^_, _<_, Fin}
 use mathlib.Core.Logic.{_↔_}
 use mathlib.Core.Path.{_≡_, refl, sym, ap, _∙_}
 use native.Mathlib.Decide.{Fin·val-path}
-use native.Mathlib.Nat.{add-assoc, add-comm, add-mod-mod, mod-add-mod, mod-eq-of-lt, mod-lt, mod-mod, mod-self, mul-add, mul-assoc, mul-comm, one-mul, zero-add, zero-mod, zero-mul, add-sub-of-le, le-of-lt}
+use native.Mathlib.Nat.{
+  add-assoc,
+  add-comm,
+  add-mod-mod,
+  mod-add-mod,
+  mod-eq-of-lt,
+  mod-lt,
+  mod-mod,
+  mod-self,
+  mul-add,
+  mul-assoc,
+  mul-comm,
+  one-mul,
+  zero-add,
+  zero-mod,
+  zero-mul,
+  add-sub-of-le,
+  le-of-lt,
+}
 use Rattle.algebra.specs.Homomorphism.{Homomorphism, map-power}
 use Rattle.algebra.specs.Natural.{natural, map-natural, natural-naturals, power-naturals}
 use Rattle.algebra.specs.Negation.{Negation}
