@@ -171,9 +171,10 @@ module _ {A B : Type 0} {R : Semiring A} {S : Semiring B} (φ : Homomorphism R S
   unfolding derivative-list
   evaluate-expand [] s δ = (𝟘, simp (evaluate-[], ring))
   evaluate-expand (x ∷ xs) s δ =
-      let (r, e) = evaluate-expand xs s δ in
-      (evaluate φ (derivative-list R xs) s ⊕ (s ⊕ δ) ⊗ r,
-      rw (evaluate-∷, evaluate-∷, evaluate-derivative, e) (simp ring))
+      let (r, e) = evaluate-expand xs s δ in (
+        evaluate φ (derivative-list R xs) s ⊕ (s ⊕ δ) ⊗ r,
+        rw (evaluate-∷, evaluate-∷, evaluate-derivative, e) (simp ring),
+      )
 
 pub derivative-evaluate : {A : Type 0} (R : Semiring A) (xs : List A) (s : Series A)
     → derivative R (evaluate (constants R) xs s) ≡ series R ._⊗_ (evaluate (constants R) (derivative-list R xs) s) (derivative R s)

@@ -30,7 +30,9 @@ use native.Mathlib.Omega.{arith}
 use Rattle.algebra.specs.Agree.{Agree, Vanish, agree-refl, agree-sym, agree-trans, agree-equal}
 use Rattle.algebra.specs.Agree.{agree-⊞, agree-⊠, agree-sum, agree-power, equal-agree, vanish-agree-⊠}
 use Rattle.algebra.specs.Evaluate.{evaluate, polynomial, map-evaluate, evaluate-indeterminate}
-use Rattle.algebra.specs.Homomorphism.{Homomorphism, constants}
+use Rattle.algebra.specs.Homomorphism.{Homomorphism, composite, constants}
+use Rattle.algebra.specs.Homomorphism.{coefficients, coefficients-constant}
+use Rattle.algebra.specs.Homomorphism.{coefficients-indeterminate, coefficientwise}
 use Rattle.algebra.specs.Homomorphism.{constant-𝟘, constant-⊕, constant-⊗}
 use Rattle.algebra.specs.Power.{power, power-0, power-suc}
 use Rattle.algebra.specs.Semiring.{Semiring, ⊕-𝟘, 𝟘-⊕, 𝟘-⊗, ⊗-𝟘}
@@ -197,13 +199,33 @@ module _ {A : Type 0} (R : Semiring A) where
       agree-trans (substitute-agree e (agree-refl w))
       (rw (substitute-assoc a u w h g) (substitute-agree (agree-refl a) (agree-sym d)))
 
-  pub evaluate-assoc : {n : ℕ} (f g c : List A) (w : Series A) → w 0 ≡ 𝟘
-      → Agree n (polynomial R c) (evaluate (constants R) f (polynomial R g))
-      → Agree n (evaluate (constants R) c w) (evaluate (constants R) f (evaluate (constants R) g w))
-  evaluate-assoc f g c w h e =
-      rw (
-        ← substitute-polynomial w h c,
-        ← substitute-polynomial w h g,
-        ← map-evaluate (substitution w h) (constants R) (constants R) (substitute-constant w h) f (polynomial R g),
-      )
-      (substitute-agree e (agree-refl w))
+-- Lists over S, their coefficients taken along φ.
+module _ {A B : Type 0} {R : Semiring A} {S : Semiring B} (φ : Homomorphism S R) where
+  abbrev scalars : Homomorphism S (series R)
+  scalars = composite (constants R) φ
+
+  module _ (u : Series A) (h : u 0 ≡ R .𝟘) where
+    substitute-evaluate : (f : List B) (s : Series A)
+        → substitute R (evaluate scalars f s) u ≡ evaluate scalars f (substitute R s u)
+    substitute-evaluate =
+        map-evaluate (substitution R u h) scalars scalars (λ b. substitute-constant R u h (φ .map b))
+
+    pub substitute-coefficients : (f : List B)
+        → substitute R (coefficients φ (polynomial S f)) u ≡ evaluate (composite (constants R) φ) f u
+    substitute-coefficients f =
+        rw (
+          ← evaluate-indeterminate S f,
+          map-evaluate (coefficientwise φ) (constants S) scalars (coefficients-constant φ) f,
+          coefficients-indeterminate φ,
+          substitute-evaluate f,
+          substitute-indeterminate R u h,
+        )
+
+    pub evaluate-assoc : {n : ℕ} (f g c : List B)
+        → Agree n (coefficients φ (polynomial S c))
+        (evaluate (composite (constants R) φ) f (coefficients φ (polynomial S g)))
+        → Agree n (evaluate (composite (constants R) φ) c u)
+        (evaluate (composite (constants R) φ) f (evaluate (composite (constants R) φ) g u))
+    evaluate-assoc f g c e =
+        rw (← substitute-coefficients c, ← substitute-coefficients g, ← substitute-evaluate f)
+        (substitute-agree R e (agree-refl u))
