@@ -5,8 +5,8 @@
 --   reverse-weaken        a reverse below n is one below m ≤ n
 --   reverse-agree         so is a series that agrees with it below n
 --   reverse-constant      only a g without constant term has a reverse below 1
---   reverse-linear reverse-linear-nonzero
---                         only a g whose linear coefficient has an inverse, that of h, has one below 2
+--   reverse-linear        only a g whose linear coefficient has an inverse, h_1, has one below 2
+--   reverse-linear-nonzero   so that coefficient is not 𝟘
 --   reverse-below-1 reverse-below-2   these conditions suffice below 1 and below 2
 --
 -- where there is a negation:
@@ -155,16 +155,19 @@ module _ {A : Type 0} (R : Semiring A) where
           multiple : g 1 ⊗ δ (suc n) ≡ 𝟘
           multiple =
               ⊕-cancel R N (substitute R g k (suc n))
-              (sym (substitute-lowest g k k-0 (agree-difference a)) ∙ rw (add-difference h k, e, ⊕-𝟘))
+              (sym (substitute-lowest g k k-0 (agree-difference a))
+              ∙ rw (add-difference h k, e, ⊕-𝟘))
 
-      pub substitute-injective : (n : ℕ) → Agree n (substitute R g h) (substitute R g k) → Agree n h k
+      pub substitute-injective : (n : ℕ) → Agree n (substitute R g h) (substitute R g k)
+          → Agree n h k
       substitute-injective zero s = λ i l. absurd (omega arith)
       substitute-injective (suc zero) s = agree-1 h k (h-0 ∙ sym k-0)
       substitute-injective (suc (suc n)) s =
           let a : Agree (suc n) h k = substitute-injective (suc n) (agree-weaken (omega arith) s) in
           agree-suc a (injective-at a (s (suc n) (omega arith)))
 
-    pub reverse-unique : (n : ℕ) {g h k : Series A} → Reverse R n g h → Reverse R n g k → Agree n h k
+    pub reverse-unique : (n : ℕ) {g h k : Series A} → Reverse R n g h → Reverse R n g k
+        → Agree n h k
     reverse-unique zero r s = λ i l. absurd (omega arith)
     reverse-unique (suc zero) {h} {k} r s = agree-1 h k (r .no-constant ∙ sym (s .no-constant))
     reverse-unique (suc (suc n)) {g} {h} {k} r s =

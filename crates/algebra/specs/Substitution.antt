@@ -20,15 +20,19 @@
 --   substitute-polynomial     of a polynomial it is the value at u
 --   substitute-into-indeterminate   a(x) is a
 --   substitute-assoc          (a(u))(w) is a(u(w))
---   substitute-assoc-agree    the same below n where a(u) and u(w) are known below n
---   evaluate-assoc            the same for lists: (f(g))(w) is f(g(w)), where f(g) is known below n
+--   substitute-assoc-agree    the same below n, where a(u) and u(w) are known below n
+--
+-- For lists of coefficients, taken along a homomorphism:
+--   substitute-coefficients   substitution into the series of a list is the value of the list at u
+--   evaluate-assoc            (f(g))(u) is f(g(u)) below n, where f(g) is known below n, as a list
 use Prim.Native.Nat.{ℕ, zero, suc, _+_}
 use mathlib.Core.List.{List}
 use mathlib.Core.Path.{_≡_, sym, ap, fun-ext, _∙_}
 use native.Mathlib.Nat.{le-dest, lt-suc-self, suc-add}
 use native.Mathlib.Omega.{arith}
-use Rattle.algebra.specs.Agree.{Agree, Vanish, agree-refl, agree-sym, agree-trans, agree-equal}
-use Rattle.algebra.specs.Agree.{agree-⊞, agree-⊠, agree-sum, agree-power, equal-agree, vanish-agree-⊠}
+use Rattle.algebra.specs.Agree.{Agree, Vanish, agree-refl, agree-sym, agree-trans}
+use Rattle.algebra.specs.Agree.{agree-equal, agree-⊞, agree-⊠, agree-sum, agree-power}
+use Rattle.algebra.specs.Agree.{equal-agree, vanish-agree-⊠}
 use Rattle.algebra.specs.Evaluate.{evaluate, polynomial, map-evaluate, evaluate-indeterminate}
 use Rattle.algebra.specs.Homomorphism.{Homomorphism, composite, constants}
 use Rattle.algebra.specs.Homomorphism.{coefficients, coefficients-constant}
@@ -194,7 +198,8 @@ module _ {A : Type 0} (R : Semiring A) where
       e = substitute-0 w g u ∙ h
 
   pub substitute-assoc-agree : {n : ℕ} (a u w : Series A) {b v : Series A} → u 0 ≡ 𝟘 → w 0 ≡ 𝟘
-      → Agree n b (substitute a u) → Agree n v (substitute u w) → Agree n (substitute b w) (substitute a v)
+      → Agree n b (substitute a u) → Agree n v (substitute u w)
+      → Agree n (substitute b w) (substitute a v)
   substitute-assoc-agree a u w h g e d =
       agree-trans (substitute-agree e (agree-refl w))
       (rw (substitute-assoc a u w h g) (substitute-agree (agree-refl a) (agree-sym d)))
