@@ -15,11 +15,11 @@ pub mod Valuation
 pub mod Semiring
 pub mod Negation
 pub mod Power
+pub mod Derivative
+pub mod Reversion
 pub mod Sum
 pub mod Series
 pub mod Agree
 pub mod Homomorphism
 pub mod Evaluate
 pub mod Substitution
-pub mod Derivative
-pub mod Reversion
