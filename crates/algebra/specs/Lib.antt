@@ -20,6 +20,8 @@
 pub mod Semiring
 pub mod Negation
 pub mod Power
+pub mod Derivative
+pub mod Reversion
 pub mod Sum
 pub mod Natural
 pub mod Domain
