@@ -1,0 +1,11 @@
+pub mod Lists
+pub mod Remainder
+pub mod Prime
+pub mod Binomial
+pub mod Natural
+pub mod Semiring
+pub mod Negation
+pub mod Power
+pub mod Sum
+pub mod Series
+pub mod Agree
