@@ -13,7 +13,7 @@ pow-one : (b : ℕ) → b ^ 1 ≡ b
 pow-one b = pow-suc b 0 ∙ rw (pow-zero, one-mul)
 
 pow-double : (b k : ℕ) → b ^ (k * 2) ≡ (b * b) ^ k
-pow-double b zero = rw (pow-zero, pow-zero)
+pow-double b zero = rw (pow-zero b, pow-zero (b * b))
 pow-double b (suc k) = rw (suc-mul, pow-add, pow-double b k, pow-suc (b * b) k, square)
   where
     square : b ^ 2 ≡ b * b
@@ -24,7 +24,7 @@ halved : (b k : ℕ) → (b * b) ^ (k / 2) * b ^ (k % 2) ≡ b ^ k
 halved b k = rw (← pow-double, ← pow-add, div-add-mod')
 
 squared : (p r b k : ℕ) → (r * (b * b % p) ^ k) % p ≡ (r * (b * b) ^ k) % p
-squared p r b k = rw (← mul-mod-mod, mod-pow-mod, mul-mod-mod)
+squared p r b k = rw (← mul-mod-mod r ((b * b % p) ^ k) p, mod-pow-mod, mul-mod-mod)
 
 module _ (p r b k : ℕ) where
   pub power-even : k % 2 ≡ 0 → (r * (b * b % p) ^ (k / 2)) % p ≡ (r * b ^ k) % p
@@ -33,4 +33,4 @@ module _ (p r b k : ℕ) where
   pub power-odd : k % 2 ≡ 1 → (r * b % p * (b * b % p) ^ (k / 2)) % p ≡ (r * b ^ k) % p
   power-odd odd =
       mod-mul-mod (r * b) _ p ∙ squared p (r * b) b (k / 2)
-      ∙ rw (← halved b k, odd, pow-one, mul-assoc r b, mul-comm b)
+      ∙ rw (← halved b k, odd, pow-one, mul-assoc r b, mul-comm b ((b * b) ^ (k / 2)))
