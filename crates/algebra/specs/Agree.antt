@@ -7,7 +7,7 @@
 --   agree-weaken      agreement below n gives agreement below m ≤ n
 --   agree-⊞ agree-⊠ agree-power agree-sum agree-neg   the operations respect agreement
 --   vanish-𝟘          a series vanishes below n if it agrees with 𝟘 there, and the other way round
---   vanish-agree-⊠    the product with a series that vanishes below i carries agreement i places further
+--   vanish-agree-⊠    a factor that vanishes below i carries agreement i places further
 --   vanish-⊠ vanish-power   products and powers of series that vanish below a place
 use Prim.Native.Nat.{ℕ, zero, suc, _+_, _*_, _<_, _≤_}
 use mathlib.Core.Logic.{_↔_}
@@ -16,8 +16,9 @@ use native.Mathlib.Nat.{add-comm, lt-suc-self, suc-mul, zero-mul}
 use native.Mathlib.Omega.{arith}
 use Rattle.algebra.specs.Negation.{Negation}
 use Rattle.algebra.specs.Power.{power, power-0, power-suc}
-use Rattle.algebra.specs.Semiring.{Semiring, 𝟘-⊕, 𝟘-⊗, ⊗-𝟘}
-use Rattle.algebra.specs.Series.{Series, series, series-negation, tail, 𝟘-at, ⊞-at, ⊠-0, ⊠-suc, neg-at}
+use Rattle.algebra.specs.Semiring.{Semiring, 𝟘-⊗, ⊗-𝟘}
+use Rattle.algebra.specs.Series.{Series, series, series-negation}
+use Rattle.algebra.specs.Series.{𝟘-at, ⊞-at, ⊠-0, ⊠-suc, neg-at}
 use Rattle.algebra.specs.Sum.{sum, sum-0, sum-suc}
 
 abbrev pub Agree : {A : Type 0} → ℕ → Series A → Series A → Type 0
@@ -43,11 +44,11 @@ module _ {A : Type 0} where
   agree-weaken l h k b = h k (omega arith)
 
 module _ {A : Type 0} (R : Semiring A) where
+  infixl 50 _⊞_
+  infixl 60 _⊠_
   open Semiring R using (𝟘)
   open Semiring (series R) using (𝟘 as 𝟘ˢ, _⊕_ as _⊞_, _⊗_ as _⊠_)
 
-  infixl 50 _⊞_
-  infixl 60 _⊠_
   abbrev pub Vanish : ℕ → Series A → Type 0
   Vanish n a = Agree n a (λ k. 𝟘)
 
@@ -55,51 +56,53 @@ module _ {A : Type 0} (R : Semiring A) where
   vanish-𝟘 = ((λ h k l. h k l ∙ sym (𝟘-at R k)), (λ h k l. h k l ∙ 𝟘-at R k))
 
   pub agree-⊞ : {n : ℕ} {a b c d : Series A} → Agree n a b → Agree n c d → Agree n (a ⊞ c) (b ⊞ d)
-  agree-⊞ h g k l = rw (⊞-at R, ⊞-at R, h k l, g k l)
+  agree-⊞ h g k l = rw (⊞-at, ⊞-at, h k l, g k l)
 
   pub agree-⊠ : {n : ℕ} {a b c d : Series A} → Agree n a b → Agree n c d → Agree n (a ⊠ c) (b ⊠ d)
-  agree-⊠ h g zero l = rw (⊠-0 R, ⊠-0 R, h 0 l, g 0 l)
+  agree-⊠ h g zero l = rw (⊠-0, ⊠-0, h 0 l, g 0 l)
   agree-⊠ h g (suc k) l =
       rw (
-        ⊠-suc R,
-        ⊠-suc R,
+        ⊠-suc,
+        ⊠-suc,
         h 0 (omega arith),
         g (suc k) l,
         agree-⊠ {n = suc k} (λ i b. h (suc i) (omega arith)) (λ i b. g i (omega arith)) k (omega arith),
       )
 
-  pub agree-power : {n : ℕ} {a b : Series A} (i : ℕ) → Agree n a b → Agree n (power (series R) a i) (power (series R) b i)
-  agree-power zero h = rw (power-0 (series R), power-0 (series R)) (agree-refl _)
-  agree-power (suc i) h = rw (power-suc (series R), power-suc (series R)) (agree-⊠ h (agree-power i h))
+  pub agree-power : {n : ℕ} {a b : Series A} (i : ℕ) → Agree n a b
+      → Agree n (power (series R) a i) (power (series R) b i)
+  agree-power zero h = rw (power-0, power-0) (agree-refl _)
+  agree-power (suc i) h = rw (power-suc, power-suc) (agree-⊠ h (agree-power i h))
 
   pub agree-sum : {n : ℕ} (m : ℕ) {f g : ℕ → Series A} → ((i : ℕ) → i < m → Agree n (f i) (g i))
       → Agree n (sum (series R) m f) (sum (series R) m g)
-  agree-sum zero h = rw (sum-0 (series R), sum-0 (series R)) (agree-refl _)
+  agree-sum zero h = rw (sum-0, sum-0) (agree-refl _)
   agree-sum (suc m) h =
-      rw (sum-suc (series R), sum-suc (series R)) (agree-⊞ (agree-sum m (λ i l. h i (omega arith))) (h m (omega arith)))
+      rw (sum-suc, sum-suc) (agree-⊞ (agree-sum m (λ i l. h i (omega arith))) (h m (omega arith)))
 
   pub agree-neg : (N : Negation R) {n : ℕ} {a b : Series A} → Agree n a b
       → Agree n (series-negation R N .neg a) (series-negation R N .neg b)
   agree-neg N h k l = rw (neg-at R N, neg-at R N, h k l)
 
-  pub vanish-agree-⊠ : (i : ℕ) {n : ℕ} {u a b : Series A} → Vanish i u → Agree n a b → Agree (i + n) (u ⊠ a) (u ⊠ b)
+  pub vanish-agree-⊠ : (i : ℕ) {n : ℕ} {u a b : Series A} → Vanish i u → Agree n a b
+      → Agree (i + n) (u ⊠ a) (u ⊠ b)
   vanish-agree-⊠ zero {u} v h k l = agree-⊠ (agree-refl u) h k (omega arith)
-  vanish-agree-⊠ (suc i) v h zero l = rw (⊠-0 R, ⊠-0 R, v 0 (omega arith), 𝟘-⊗ R, 𝟘-⊗ R)
+  vanish-agree-⊠ (suc i) v h zero l = rw (⊠-0, ⊠-0, v 0 (omega arith), 𝟘-⊗, 𝟘-⊗)
   vanish-agree-⊠ (suc i) v h (suc k) l =
       rw (
-        ⊠-suc R,
-        ⊠-suc R,
+        ⊠-suc,
+        ⊠-suc,
         v 0 (omega arith),
-        𝟘-⊗ R,
-        𝟘-⊗ R,
+        𝟘-⊗,
+        𝟘-⊗,
         vanish-agree-⊠ i (λ m b. v (suc m) (omega arith)) h k (omega arith),
       )
 
   pub vanish-⊠ : (i j : ℕ) {a b : Series A} → Vanish i a → Vanish j b → Vanish (i + j) (a ⊠ b)
-  vanish-⊠ i j {a} {b} v w =
+  vanish-⊠ i j {a} v w =
       vanish-𝟘 .1 (rw (⊗-𝟘 (series R) a) at (vanish-agree-⊠ i v (vanish-𝟘 .0 w)))
 
   pub vanish-power : (i j : ℕ) {a : Series A} → Vanish i a → Vanish (j * i) (power (series R) a j)
   vanish-power i zero v = rw zero-mul (λ k l. absurd (omega arith))
   vanish-power i (suc j) v =
-      rw (suc-mul, add-comm (j * i) i, power-suc (series R)) (vanish-⊠ i (j * i) v (vanish-power i j v))
+      rw (suc-mul, add-comm (j * i) i, power-suc) (vanish-⊠ i (j * i) v (vanish-power i j v))

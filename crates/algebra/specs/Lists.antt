@@ -79,7 +79,10 @@ sum-cong n f g h = rw (sum-naturals n f, sum-naturals n g) (Sum.sum-cong natural
 
 pub ceilDiv-below : {p : ℕ} → 0 < p → (n k : ℕ) → (k < ceilDiv n p) ↔ (k * p < n)
 unfolding ceilDiv
-ceilDiv-below {p} l n k = (λ b. omega (arith, le-div-iff-mul-le l .0 b, suc-mul k p), λ b. le-div-iff-mul-le l .1 (omega (arith, suc-mul k p)))
+ceilDiv-below {p} l n k = (
+  (λ b. omega (arith, le-div-iff-mul-le l .0 b, suc-mul k p)),
+  (λ b. le-div-iff-mul-le l .1 (omega (arith, suc-mul k p))),
+)
 
 pub ceilDiv-covers : {p : ℕ} → 0 < p → (n : ℕ) → n ≤ ceilDiv n p * p
 ceilDiv-covers {p} l n = by-contra n (ceilDiv n p * p) (λ b. lt-irrefl (ceilDiv n p) (ceilDiv-below l n (ceilDiv n p) .1 b))

@@ -1,24 +1,17 @@
 -- Commutative rings: a semiring together with a negation. Assumes nothing.
 --
---   Negation R        a negation `neg` over the semiring R
---   ⊕-neg neg-⊕-self  a ⊕ neg a and neg a ⊕ a are 𝟘
---   ⊕-cancel          what stands beside the same summand is equal if the sums are
---   neg-unique        b is neg a if a ⊕ b is 𝟘
+--   Negation R            a negation `neg` over the semiring R
+--   ⊕-neg neg-⊕-self      a ⊕ neg a and neg a ⊕ a are 𝟘
+--   ⊕-neg-cancel neg-⊕-cancel   a ⊕ (neg a ⊕ b) and neg a ⊕ (a ⊕ b) are b
+--   ⊕-cancel              b is c if a ⊕ b is a ⊕ c
+--   neg-unique            b is neg a if a ⊕ b is 𝟘
 --   equal-by-difference   a is b if a ⊕ neg b is 𝟘
 --   neg-𝟘 neg-neg neg-⊕   negation is an involution that keeps sums
 --   neg-⊗ ⊗-neg           a sign moves out of a product
---   signed            the set of these laws, for `simp (ring, signed)`
+--   signed                the set of these laws: `simp (ring, signed)` also cancels a beside neg a
 use mathlib.Core.Path.{_≡_, sym, ap, _∙_}
-use Rattle.algebra.specs.Semiring.{
-  Semiring,
-  ⊕-assoc,
-  ⊕-comm,
-  𝟘-⊕,
-  𝟘-⊗,
-  ⊕-⊗,
-  ⊗-comm,
-  ⊕-interchange,
-}
+use Rattle.algebra.specs.Semiring.{Semiring, ⊕-assoc, ⊕-comm, 𝟘-⊕}
+use Rattle.algebra.specs.Semiring.{𝟘-⊗, ⊕-⊗, ⊗-comm, ⊕-interchange}
 
 pub record Negation {A : Type 0} (R : Semiring A) : Type 0 where
   pub neg : A → A
@@ -35,10 +28,10 @@ module _ {A : Type 0} (R : Semiring A) (N : Negation R) where
   neg-⊕-self a = ⊕-comm R (neg a) a ∙ ⊕-neg a
 
   pub neg-⊕-cancel : (a b : A) → neg a ⊕ (a ⊕ b) ≡ b
-  neg-⊕-cancel a b = rw (← ⊕-assoc R (neg a) a b, neg-⊕-self, 𝟘-⊕ R)
+  neg-⊕-cancel a b = rw (← ⊕-assoc R (neg a) a b, neg-⊕-self, 𝟘-⊕)
 
   pub ⊕-neg-cancel : (a b : A) → a ⊕ (neg a ⊕ b) ≡ b
-  ⊕-neg-cancel a b = rw (← ⊕-assoc R a (neg a) b, ⊕-neg, 𝟘-⊕ R)
+  ⊕-neg-cancel a b = rw (← ⊕-assoc R a (neg a) b, ⊕-neg, 𝟘-⊕)
 
   pub ⊕-cancel : (a : A) {b c : A} → a ⊕ b ≡ a ⊕ c → b ≡ c
   ⊕-cancel a {b} {c} h = sym (neg-⊕-cancel a b) ∙ ap (λ s. neg a ⊕ s) h ∙ neg-⊕-cancel a c
@@ -57,10 +50,10 @@ module _ {A : Type 0} (R : Semiring A) (N : Negation R) where
 
   pub neg-⊕ : (a b : A) → neg (a ⊕ b) ≡ neg a ⊕ neg b
   neg-⊕ a b = sym (neg-unique (a ⊕ b) (neg a ⊕ neg b)
-      (⊕-interchange R a b (neg a) (neg b) ∙ rw (⊕-neg a, ⊕-neg b, 𝟘-⊕ R)))
+      (⊕-interchange R a b (neg a) (neg b) ∙ rw (⊕-neg a, ⊕-neg b, 𝟘-⊕)))
 
   pub neg-⊗ : (a b : A) → neg a ⊗ b ≡ neg (a ⊗ b)
-  neg-⊗ a b = neg-unique (a ⊗ b) (neg a ⊗ b) (rw (← ⊕-⊗ R a (neg a) b, ⊕-neg, 𝟘-⊗ R))
+  neg-⊗ a b = neg-unique (a ⊗ b) (neg a ⊗ b) (rw (← ⊕-⊗ R a (neg a) b, ⊕-neg, 𝟘-⊗))
 
   pub ⊗-neg : (a b : A) → a ⊗ neg b ≡ neg (a ⊗ b)
   ⊗-neg a b = rw (⊗-comm R a (neg b), neg-⊗, ⊗-comm R b a)

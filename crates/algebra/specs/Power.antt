@@ -31,20 +31,20 @@ module _ {A : Type 0} (R : Semiring A) where
   power-1 s = ⊗-𝟙 R s
 
   pub power-+ : (s : A) (i j : ℕ) → power s (i + j) ≡ power s i ⊗ power s j
-  power-+ s zero j = rw (zero-add, power-0, 𝟙-⊗ R)
-  power-+ s (suc i) j = rw (suc-add, power-suc, power-suc, power-+ s i j, ⊗-assoc R)
+  power-+ s zero j = rw (zero-add, power-0, 𝟙-⊗)
+  power-+ s (suc i) j = rw (suc-add, power-suc, power-suc, power-+ s i j, ⊗-assoc)
 
   pub power-⊗ : (s t : A) (k : ℕ) → power (s ⊗ t) k ≡ power s k ⊗ power t k
-  power-⊗ s t zero = simp (power-0, 𝟙-⊗ R)
+  power-⊗ s t zero = simp (power-0, 𝟙-⊗)
   power-⊗ s t (suc k) = simp (power-suc, power-⊗ s t k, ring)
 
   pub power-𝟙 : (k : ℕ) → power 𝟙 k ≡ 𝟙
   power-𝟙 zero = power-0 𝟙
-  power-𝟙 (suc k) = rw (power-suc, power-𝟙 k, 𝟙-⊗ R)
+  power-𝟙 (suc k) = rw (power-suc, power-𝟙 k, 𝟙-⊗)
 
   pub power-𝟘 : (k : ℕ) → power 𝟘 (suc k) ≡ 𝟘
   power-𝟘 k = power-suc 𝟘 k ∙ 𝟘-⊗ R (power 𝟘 k)
 
   pub power-* : (s : A) (i j : ℕ) → power s (i * j) ≡ power (power s i) j
   power-* s i zero = rw (mul-zero, power-0, power-0)
-  power-* s i (suc j) = rw (mul-suc, power-+, power-suc, power-* s i j, ⊗-comm R)
+  power-* s i (suc j) = rw (mul-suc, power-+, power-suc, power-* s i j, ⊗-comm)

@@ -1,5 +1,6 @@
 -- Prime numbers: Euclid's lemma, the Boolean test, and trial division up to the square root. Assumes nothing.
 --
+--   prime-positive    a prime is above 0
 --   euclid            a prime that divides a product and not the first factor divides the second
 --   prime-product     the same of remainders: a product of two numbers that a prime does not divide is not divided by it
 --   prime-by-trial    a number above 1 that no d from 2 with d d ≤ n divides is prime
@@ -35,6 +36,9 @@ use native.Mathlib.Nat.{
 use native.Mathlib.Omega.{arith}
 use Rattle.algebra.specs.Remainder.{mod-mul-mod}
 use Rattle.definition.specs.Prime.{Prime, isPrime, indivisible}
+
+pub prime-positive : {p : ℕ} → Prime p → 0 < p
+prime-positive P = omega (arith, P .above-one)
 
 pub not-prime : {n : ℕ} (d : ℕ) → 1 < d → d < n → n % d ≡ 0 → Prime n → ⊥
 not-prime {n} d l b e P = let s : d ≡ n = P .undivided d l (dvd-of-mod-eq-zero d e) in omega arith

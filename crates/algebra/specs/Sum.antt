@@ -12,20 +12,11 @@
 --   sum-reverse       the terms in reverse order
 use Prim.Native.Nat.{ℕ, zero, suc, _+_, _-_, _<_}
 use mathlib.Core.Logic.{_≢_}
-use mathlib.Core.Path.{_≡_, refl, sym, ap, _∙_}
+use mathlib.Core.Path.{_≡_, refl, sym, ap}
 use native.Mathlib.Nat.{add-suc, add-zero, le-dest, suc-sub-suc, sub-zero}
 use native.Mathlib.Omega.{arith}
-use Rattle.algebra.specs.Semiring.{
-  Semiring,
-  ⊕-assoc,
-  ⊕-comm,
-  ⊕-𝟘,
-  𝟘-⊕,
-  ⊗-⊕,
-  ⊗-𝟘,
-  ⊗-comm,
-  ⊕-interchange,
-}
+use Rattle.algebra.specs.Semiring.{Semiring, ⊕-assoc, ⊕-comm, ⊕-𝟘, 𝟘-⊕}
+use Rattle.algebra.specs.Semiring.{⊗-⊕, ⊗-𝟘, ⊗-comm, ⊕-interchange}
 
 module _ {A : Type 0} (R : Semiring A) where
   open Semiring R using (𝟘, _⊕_, _⊗_)
@@ -43,12 +34,12 @@ module _ {A : Type 0} (R : Semiring A) where
   sum-suc n f = refl
 
   pub sum-+ : (i j : ℕ) (f : ℕ → A) → sum (i + j) f ≡ sum i f ⊕ sum j (λ k. f (i + k))
-  sum-+ i zero f = rw (add-zero, sum-0, ⊕-𝟘 R)
-  sum-+ i (suc j) f = rw (add-suc, sum-suc, sum-suc, sum-+ i j f, ⊕-assoc R)
+  sum-+ i zero f = rw (add-zero, sum-0, ⊕-𝟘)
+  sum-+ i (suc j) f = rw (add-suc, sum-suc, sum-suc, sum-+ i j f, ⊕-assoc)
 
   pub sum-first : (n : ℕ) (f : ℕ → A) → sum (suc n) f ≡ f 0 ⊕ sum n (λ i. f (suc i))
-  sum-first zero f = rw (sum-suc 0 f, sum-0, sum-0, ⊕-comm R)
-  sum-first (suc n) f = rw (sum-suc, sum-first n f, sum-suc, ⊕-assoc R)
+  sum-first zero f = rw (sum-suc 0 f, sum-0, sum-0, ⊕-comm)
+  sum-first (suc n) f = rw (sum-suc, sum-first n f, sum-suc, ⊕-assoc)
 
   pub sum-cong : (n : ℕ) (f g : ℕ → A) → ((i : ℕ) → i < n → f i ≡ g i) → sum n f ≡ sum n g
   sum-cong zero f g h = rw (sum-0, sum-0)
@@ -57,21 +48,22 @@ module _ {A : Type 0} (R : Semiring A) where
 
   pub sum-𝟘 : (n : ℕ) (f : ℕ → A) → ((i : ℕ) → i < n → f i ≡ 𝟘) → sum n f ≡ 𝟘
   sum-𝟘 zero f h = sum-0 f
-  sum-𝟘 (suc n) f h = rw (sum-suc, sum-𝟘 n f (λ i l. h i (omega arith)), h n (omega arith), ⊕-𝟘 R)
+  sum-𝟘 (suc n) f h = rw (sum-suc, sum-𝟘 n f (λ i l. h i (omega arith)), h n (omega arith), ⊕-𝟘)
 
   pub sum-⊕ : (n : ℕ) (f g : ℕ → A) → sum n (λ i. f i ⊕ g i) ≡ sum n f ⊕ sum n g
-  sum-⊕ zero f g = simp (sum-0, 𝟘-⊕ R)
-  sum-⊕ (suc n) f g = rw (sum-suc, sum-suc, sum-suc, sum-⊕ n f g, ⊕-interchange R)
+  sum-⊕ zero f g = simp (sum-0, 𝟘-⊕)
+  sum-⊕ (suc n) f g = rw (sum-suc, sum-suc, sum-suc, sum-⊕ n f g, ⊕-interchange)
 
   pub ⊗-sum : (n : ℕ) (c : A) (f : ℕ → A) → c ⊗ sum n f ≡ sum n (λ i. c ⊗ f i)
-  ⊗-sum zero c f = rw (sum-0, sum-0, ⊗-𝟘 R)
-  ⊗-sum (suc n) c f = rw (sum-suc, sum-suc, ⊗-⊕ R, ⊗-sum n c f)
+  ⊗-sum zero c f = rw (sum-0, sum-0, ⊗-𝟘)
+  ⊗-sum (suc n) c f = rw (sum-suc, sum-suc, ⊗-⊕, ⊗-sum n c f)
 
   pub sum-⊗ : (n : ℕ) (f : ℕ → A) (c : A) → sum n f ⊗ c ≡ sum n (λ i. f i ⊗ c)
-  sum-⊗ n f c = ⊗-comm R (sum n f) c ∙ ⊗-sum n c f ∙ sum-cong n (λ i. c ⊗ f i) (λ i. f i ⊗ c) (λ i l. ⊗-comm R c (f i))
+  sum-⊗ n f c = rw (⊗-comm R (sum n f) c, ⊗-sum) (simp ⊗-comm)
 
-  pub sum-exchange : (m n : ℕ) (f : ℕ → ℕ → A) → sum m (λ i. sum n (f i)) ≡ sum n (λ j. sum m (λ i. f i j))
-  sum-exchange zero n f = rw sum-0 (sym (sum-𝟘 n (λ j. sum 0 (λ i. f i j)) (λ j l. sum-0 (λ i. f i j))))
+  pub sum-exchange : (m n : ℕ) (f : ℕ → ℕ → A)
+      → sum m (λ i. sum n (f i)) ≡ sum n (λ j. sum m (λ i. f i j))
+  sum-exchange zero n f = simp sum-0 (sym (sum-𝟘 n (λ j. 𝟘) (λ j l. refl)))
   sum-exchange (suc m) n f =
       simp (sum-suc, sum-⊕) (ap (λ s. s ⊕ sum n (f m)) (sum-exchange m n f))
 
@@ -90,6 +82,6 @@ module _ {A : Type 0} (R : Semiring A) where
         sum-suc j f,
         sum-𝟘 j f (λ i b. h i (omega arith) (omega arith)),
         sum-𝟘 k (λ i. f (suc j + i)) (λ i b. h (suc j + i) (omega arith) (omega arith)),
-        ⊕-𝟘 R,
-        𝟘-⊕ R,
+        ⊕-𝟘,
+        𝟘-⊕,
       )
