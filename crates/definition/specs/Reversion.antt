@@ -2,12 +2,14 @@
 --
 --   identity n        x modulo x^n: a list of n places
 --   Reversion p n g h   h is a list of n places below p, without constant term, for which g(h) is x modulo x^n
-use Prim.Native.Nat.{ℕ, zero, suc, _<_}
+use Prim.Native.Nat.{ℕ, zero, suc}
 use mathlib.Core.Path.{_≡_}
+use mathlib.Core.Bool.{false}
 use mathlib.Core.List.{List}
 use lib.ListN.{length}
 use Rattle.definition.specs.Lists.{tabulate, coefficient}
 use Rattle.definition.specs.Substitution.{constant, composed}
+use Rattle.definition.specs.Refusal.{exceeds}
 
 unfoldable pub identityAt : ℕ → ℕ
 identityAt zero = 0
@@ -18,6 +20,6 @@ identity n = tabulate n identityAt
 
 pub record Reversion (p n : ℕ) (g h : List ℕ) : Type 0 where
   pub places : length h ≡ n
-  pub below : (i : ℕ) → i < n → coefficient h i < p
+  pub below : exceeds p h ≡ false
   pub no-constant : coefficient h 0 ≡ 0
   pub reverses : composed p n g h ≡ identity n

@@ -6,9 +6,9 @@
 --   bernsteinWeight p n m    route 3
 --   kinoshitaLiWeight n m    route 4
 --   weight route p n m       the weight of the route of that number (01's term route), with blocks of 4 in route 2
-use Prim.Native.Nat.{ℕ, zero, suc, _+_, _-_, _*_, min}
+use Prim.Native.Nat.{ℕ, zero, suc, _+_, _-_, _*_, _^_, min}
 use mathlib.Core.Bool.{cond}
-use lib.Dec.{leb, ltb, eqb}
+use lib.Dec.{leb, eqb}
 use lib.Count.{ones, leadingZeros}
 use Rattle.definition.specs.Lists.{sum, ceilDiv}
 use Rattle.definition.specs.Ranged.{blockLength}
@@ -49,16 +49,24 @@ bernsteinWeight p n m = bernsteinLevels m p n m
 unfoldable pub degreeBound : ℕ → ℕ → ℕ
 degreeBound m q = min (2 * q) (m - 1)
 
--- at order r, with the bound q on the degree of Q in y, with d and with w = m - d: Q(x, y) Q(-x, y) has r rows of q' + 1 places, and the
--- product that is kept has r rows of w. The first argument bounds the number of levels
+-- the least K from k on with 2^K at least n; the first argument bounds the search
+unfoldable pub halvingsFrom : ℕ → ℕ → ℕ → ℕ
+halvingsFrom zero k n = k
+halvingsFrom (suc tries) k n = cond (leb n (2 ^ k)) k (halvingsFrom tries (suc k) n)
+
+-- K: the number of halvings of the order n
+unfoldable pub halvings : ℕ → ℕ
+halvings n = halvingsFrom n 0 n
+
+-- K levels from order r on, with the bound q on the degree of Q in y, with d and with w = m - d: Q(x, y) Q(-x, y) has r (q' + 1) places, and
+-- the product that is kept has r w
 unfoldable pub kinoshitaLiLevels : ℕ → ℕ → ℕ → ℕ → ℕ → ℕ
 kinoshitaLiLevels zero m r q d = 0
 kinoshitaLiLevels (suc levels) m r q d =
-    cond (leb r 1) 0
-    (r * (degreeBound m q + 1 + (m - d)) + kinoshitaLiLevels levels m (ceilDiv r 2) (degreeBound m q) (d - q))
+    r * (degreeBound m q + 1 + (m - d)) + kinoshitaLiLevels levels m (ceilDiv r 2) (degreeBound m q) (d - q)
 
 unfoldable pub kinoshitaLiWeight : ℕ → ℕ → ℕ
-kinoshitaLiWeight n m = cond (eqb m 0) 0 (kinoshitaLiLevels n m n (min 1 (m - 1)) (m - 1))
+kinoshitaLiWeight n m = cond (eqb m 0) 0 (kinoshitaLiLevels (halvings n) m n (min 1 (m - 1)) (m - 1))
 
 unfoldable pub weight : ℕ → ℕ → ℕ → ℕ → ℕ
 weight route p n m =
