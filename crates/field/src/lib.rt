@@ -112,7 +112,7 @@ impl Field {
         r
     }
 
-    // The inverse of a modulo a prime p, as a^(p - 2).
+    // a^(p - 2) modulo p: the inverse of a where p is prime and does not divide a (`inverse` of Fermat, in algebra).
     pub fn inverse(self, a: u32) -> u32
         requires { ⌜ 1 < self .modulus ⌝ }
         ensures { λ r. ⌜ r ≡ (a ^ (self .modulus - 2)) % self .modulus ⌝ }

@@ -7,10 +7,10 @@
 -- Assumes nothing.
 use Prim.Native.Nat.{ℕ, suc, _+_, _*_, _<_, _≤_}
 use lib.Dec.{lit≤}
-use lib.ListN.{length, getD}
+use lib.ListN.{getD}
 use mathlib.Core.Bool.{true}
 use mathlib.Core.List.{List, [], _∷_}
-use mathlib.Core.Path.{_≡_, refl, sym}
+use mathlib.Core.Path.{_≡_, refl}
 use native.Mathlib.Omega.{arith}
 use Rattle.definition.specs.PrimeTable.{TableRule, largestModulus, primeTable}
 use Rattle.primes.specs.Sieve.{Next, composites, oddTrial, quick, reach, sieved, sieved-below, sieved-next, trial}

@@ -4,7 +4,7 @@ use borrow.Author.Needs.{needs}
 use native.Mathlib.Omega.{arith}
 use Prim.Native.Nat.{_-_, _≤_}
 use native.Mathlib.Nat.{zero-add}
-use mathlib.Core.Path.{_≡_, _∙_}
+use mathlib.Core.Path.{_≡_, refl, _∙_}
 use lib.ListN.{length, take}
 use lib.Seq.{sets, take-length}
 use Rattle.buffer.specs.Written.{sets-take, sets-front}
@@ -48,7 +48,7 @@ same-length c = search needs
 returns : tie.Need-returns Inv-loop μ-loop
 returns c =
     let all : c .before .loop .i ≡ length (c .before .before .args .src .now) = omega arith in
-    rw (sets-front _ _ (c .before .before .pre)) (c .before .loop .inv .2 ∙ rw (all, take-length))
+    rw (sets-front _ _ _ refl (c .before .before .pre)) (c .before .loop .inv .2 ∙ rw (all, take-length))
 
 pub copy-spec : {M : Type 1} → statement M
 copy-spec =
