@@ -16,8 +16,7 @@ use mathlib.Core.Path.{_≡_, refl}
 use native.Mathlib.Omega.{arith}
 use Rattle.algebra.specs.Prime.{prime-of-test}
 use Rattle.definition.specs.Answer.{answered}
-use Rattle.definition.specs.Prime.{Prime, isPrime}
-use Rattle.definition.specs.PrimeTable.{largestModulus}
+use Rattle.definition.specs.Prime.{Prime, isPrime, largestModulus}
 use Rattle.definition.specs.Refusal.{badModulus, first, test}
 use Rattle.field.specs.declared.Field as Field
 use Rattle.field.specs.declared.Opened.{Opened}

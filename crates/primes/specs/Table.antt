@@ -5,19 +5,19 @@
 --   table-written   they are the table of the definitions
 --   table-rule      the rule of the table
 -- Assumes nothing.
-use Prim.Native.Nat.{ℕ, suc, _+_, _*_, _<_, _≤_}
+use Prim.Native.Nat.{ℕ, suc, _-_, _*_, _<_, _≤_}
 use lib.Dec.{lit≤}
 use lib.ListN.{getD}
 use mathlib.Core.Bool.{true}
 use mathlib.Core.List.{List, [], _∷_}
 use mathlib.Core.Path.{_≡_, refl}
 use native.Mathlib.Omega.{arith}
-use Rattle.definition.specs.PrimeTable.{TableRule, largestModulus, primeTable}
+use Rattle.definition.specs.PrimeTable.{TableRule, tableBound, primeTable}
 use Rattle.primes.specs.Sieve.{Next, composites, oddTrial, quick, reach, sieved, sieved-below, sieved-next, trial}
 
 unfoldable pub table : List ℕ
 table =
-    largestModulus
+    (tableBound - 1)
     ∷ 2147483629
     ∷ 2147483587
     ∷ 2147483579
@@ -35,22 +35,22 @@ table =
     ∷ 2147483249
     ∷ []
 
-tested : sieved (largestModulus + 1) table ≡ true
-unfolding sieved composites quick oddTrial trial table largestModulus
+tested : sieved tableBound table ≡ true
+unfolding sieved composites quick oddTrial trial table tableBound
 tested = refl
 
-within : largestModulus + 1 ≤ reach * reach
-unfolding largestModulus
+within : tableBound ≤ reach * reach
+unfolding tableBound
 within = lit≤ tt
 
 pub table-written : primeTable ≡ table
 unfolding primeTable table
-table-written = sieved-below (largestModulus + 1) table within tested
+table-written = sieved-below tableBound table within tested
 
 -- entry i is the largest prime below the entry before it
-next : (i : ℕ) → i < 16 → Next (getD ((largestModulus + 1) ∷ table) i 0) (getD table i 0)
+next : (i : ℕ) → i < 16 → Next (getD (tableBound ∷ table) i 0) (getD table i 0)
 unfolding table
-next i l = sieved-next (largestModulus + 1) table within tested i l
+next i l = sieved-next tableBound table within tested i l
 
 written : TableRule table
 unfolding table

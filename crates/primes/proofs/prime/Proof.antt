@@ -4,7 +4,7 @@ use borrow.Author.Tests.{le-leb, lt-leb}
 use native.Mathlib.Omega.{arith}
 use lib.ListN.{List·getD-eq-default}
 use mathlib.Core.Path.{sym}
-use Rattle.definition.specs.PrimeTable.{largestModulus, primeTable}
+use Rattle.definition.specs.PrimeTable.{primeTable, tableBound}
 use Rattle.definition.specs.Refusal.{first, tableRefusal, test}
 use Rattle.primes.specs.Table.{table, table-rule, table-written}
 use Rattle.primes.proofs.prime.Statement.{statement}
@@ -17,7 +17,7 @@ array-read-t9 : tie.Need-array-read-t9
 array-read-t9 c = search needs
 
 returns : tie.Need-returns
-unfolding first largestModulus table tableRefusal test
+unfolding first table tableBound tableRefusal test
 returns c = record { number = rw (lt-leb 16 _ (c .if1 .taken)); prime = rw table-written }
 
 returns-2 : tie.Need-returns-2

@@ -1,7 +1,7 @@
 -- `Field::new` meets its contract: the two tests are those of `badModulus`. Assumes nothing.
 use borrow.Author.Needs.{needs}
 use borrow.Author.Tests.{le-ltb, lt-ltb}
-use Rattle.definition.specs.PrimeTable.{largestModulus}
+use Rattle.definition.specs.Prime.{largestModulus}
 use Rattle.definition.specs.Refusal.{badModulus}
 use Rattle.field.specs.Opening.{opening-refused, opening-taken}
 use Rattle.field.proofs.Field.new.Statement.{statement}
