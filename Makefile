@@ -3,10 +3,14 @@
 # make clean  removes target/, where everything that is built stands
 
 SECOND := target/tests/second
+DEFINITIONS := target/tests/definitions
+PLAIN := $(wildcard tests/second/*.rs tests/second/*/*.rs)
+RUSTC := rustc --edition 2021 -O -D warnings
+SEED := 1
 
-.PHONY: test run clean formatted second tools
+.PHONY: test run clean formatted second definitions tools
 
-test: tools formatted second
+test: tools formatted second definitions
 	rt ci
 
 run: tools
@@ -18,11 +22,24 @@ formatted: tools
 
 # the plain second implementation checks itself
 second: tools $(SECOND)
-	$(SECOND)
+	$(SECOND) $(SEED)
 
-$(SECOND): $(wildcard tests/second/*.rs tests/second/*/*.rs)
+# the definitions, held against the second implementation: the prover computes seeded equations in a repository of their own
+definitions: tools $(DEFINITIONS)
+	rm -rf target/equations
+	mkdir -p target/equations/crates
+	cp -r crates/definition target/equations/crates/
+	printf 'definition:\nequations: definition\n' > target/equations/crates.txt
+	$(DEFINITIONS) crates/definition/specs target/equations/crates/equations $(SEED)
+	cd target/equations && rt check equations
+
+$(SECOND): $(PLAIN)
 	mkdir -p $(@D)
-	rustc --edition 2021 -O -D warnings -o $@ tests/second/main.rs
+	$(RUSTC) -o $@ tests/second/main.rs
+
+$(DEFINITIONS): $(PLAIN) $(wildcard tests/definitions/*.rs)
+	mkdir -p $(@D)
+	$(RUSTC) -o $@ tests/definitions/main.rs
 
 # rt comes with the toolchain; the rest is installed from the distribution's packages where it is missing
 tools:

@@ -1,0 +1,131 @@
+//! The equations, a group for each notion. Arguments are small: the definitions are computed as they stand.
+
+use crate::plain::random::Random;
+use crate::plain::{chain::Chain, job, primes, refusals, render, reversion, substitution, taylor, weights};
+
+const PRIMES: [u64; 5] = [2, 3, 5, 7, 11];
+
+/// A list as the definitions write it.
+fn list<T: std::fmt::Display>(places: &[T]) -> String {
+    let shown: Vec<String> = places.iter().map(|place| format!("{place} ∷ ")).collect();
+    format!("({}[])", shown.concat())
+}
+
+pub fn all(random: &mut Random) -> Vec<String> {
+    let mut equations = Vec::new();
+    for _ in 0..60 {
+        equations.extend(weight(random));
+        equations.push(block_lengths(random));
+        equations.extend(composition(random));
+        equations.extend(reverse(random));
+        equations.push(running(random));
+        equations.extend(numbers(random));
+        equations.push(text(random));
+        equations.push(file(random));
+    }
+    equations.extend((0..120).map(|p| format!("isPrime {p} ≡ mathlib.Core.Bool.{}", primes::is_prime(p))));
+    equations
+}
+
+fn weight(random: &mut Random) -> Vec<String> {
+    let (p, n, m) = (random.pick(&PRIMES), 1 + random.below(9), random.below(14));
+    let rule = |route| weights::by_number(route, p, m, n, 4);
+    (1..=4).map(|route| format!("weight {route} {p} {n} {m} ≡ {}", rule(route))).collect()
+}
+
+fn block_lengths(random: &mut Random) -> String {
+    let (length, n, m) = (1 + random.below(9), 1 + random.below(30), random.below(40));
+    format!("rangedWeight {length} {n} {m} ≡ {}", weights::ranged(m, n, length))
+}
+
+fn composition(random: &mut Random) -> Vec<String> {
+    let (p, n) = (random.pick(&PRIMES), random.count(1, 4));
+    let (outer, inner) = (random.count(0, 4), random.count(0, 5));
+    let (f, g) = (random.list(p, outer), random.list(p, inner));
+    let shown = format!("{p} {n} {} {}", list(&f), list(&g));
+    vec![
+        format!("composed {shown} ≡ {}", list(&substitution::substitution(p, &f, &g, n))),
+        format!("leading {shown} ≡ {}", list(&taylor::deciding_coefficients(p, &f, &g, n))),
+    ]
+}
+
+/// g(h) is x for the h of the second implementation; where there is none, the number is 9.
+fn reverse(random: &mut Random) -> Vec<String> {
+    let (p, n, count) = (random.pick(&PRIMES), random.count(1, 4), random.count(0, 4));
+    let mut g = random.list(p, count);
+    if let Some(constant) = g.first_mut() {
+        *constant = if random.once_in(4) { random.coefficient(p) } else { 0 };
+    }
+    let work = refusals::work_places(n as u64, g.len());
+    let number = refusals::reverse(p, n as u64, &g, n, work as usize);
+    let mut equations = vec![format!("reverseRefusal {p} {n} {} {n} {work} ≡ {number}", list(&g))];
+    if number == 0 {
+        let h = reversion::reverse(p, &g, n);
+        equations.push(format!("composed {p} {n} {} {} ≡ identity {n}", list(&g), list(&h)));
+    }
+    equations
+}
+
+fn running(random: &mut Random) -> String {
+    let (p, n) = (random.pick(&[2, 3, 5]), random.count(1, 3));
+    let mut series = vec![0; n];
+    let mut work = vec![0; 1000];
+    let (mut chain, _) = Chain::open(p, n as u64, &mut series);
+    let mut cycles = Vec::new();
+    for _ in 0..random.count(0, 2) {
+        let mut cycle = random.list(p, 3);
+        cycle[0] = 0;
+        chain = chain.cycle(1, &cycle, &mut series, &mut work).0;
+        cycles.push(list(&cycle));
+    }
+    format!("running {p} {n} {} ≡ {}", list(&cycles), list(&series))
+}
+
+/// The number of each call, at arguments on both sides of its bounds.
+fn numbers(random: &mut Random) -> Vec<String> {
+    let (route, p, n) = (random.below(6), random.below(14), random.below(5));
+    let (outer, inner) = (random.count(0, 3), random.count(0, 3));
+    let (f, g) = (random.list(p + 1, outer), random.list(p + 1, inner));
+    let places = (n + random.below(5) / 4) as usize;
+    let work = (128 * n + 8 * f.len() as u64 + 16 * n * random.below(2)).saturating_sub(random.below(5) / 4);
+    let series = random.list(p + 1, places);
+    let done = 62 + random.below(4);
+    let (shown, shown_inner) = (list(&f), list(&g));
+    let compose = refusals::compose(route, p, n, &f, &g, places, work as usize);
+    let cycle = refusals::cycle(route, p, n, done, &f, &series, work as usize);
+    let index = random.below(20);
+    vec![
+        format!("composeRefusal {route} {p} {n} {shown} {shown_inner} {places} {work} ≡ {compose}"),
+        format!("cycleRefusal {route} {p} {n} {done} {shown} {} {work} ≡ {cycle}", list(&series)),
+        format!("openRefusal {p} {n} {places} ≡ {}", refusals::open(p, n, places)),
+        format!("tableRefusal {index} ≡ {}", refusals::table(index)),
+    ]
+}
+
+fn text(random: &mut Random) -> String {
+    let (number, n, count) = (random.below(3) as u32 * 7, 1 + random.below(99), random.count(0, 3));
+    let weight = random.next() >> random.below(64);
+    let coefficients = random.buffer(count);
+    let bytes = render::text(number, n, weight, &coefficients);
+    format!("rendered {number} {n} {weight} {} ≡ {}", list(&coefficients), list(&bytes))
+}
+
+/// A job file, whole or damaged in one byte or at its end.
+fn file(random: &mut Random) -> String {
+    let p = random.pick(&PRIMES);
+    let (outer, inner) = (random.count(0, 3), random.count(0, 3));
+    let (f, g) = (random.list(p, outer), random.list(p, inner));
+    let counts = [f.len() as u32, 28, g.len() as u32, 28 + 4 * f.len() as u32];
+    let header = [1 + random.below(4) as u32, p as u32, 1 + random.below(3) as u32];
+    let words = header.iter().chain(&counts).chain(&f).chain(&g);
+    let mut bytes: Vec<u8> = words.flat_map(|word| word.to_le_bytes()).collect();
+    match random.below(3) {
+        0 => bytes.truncate(random.count(0, bytes.len())),
+        1 => {
+            let place = 4 * random.count(2, 6);
+            bytes[place] = random.below(80) as u8;
+        }
+        _ => {}
+    }
+    format!("jobText {} ≡ {}", list(&bytes), list(&job::run(&bytes)))
+}
