@@ -1,7 +1,9 @@
 //! The equations, a group for each notion. Arguments are small: the definitions are computed as they stand.
 
 use crate::plain::random::Random;
-use crate::plain::{chain::Chain, job, primes, refusals, render, reversion, substitution, taylor, weights};
+use crate::plain::{
+    chain::Chain, job, primes, refusals, render, reversion, substitution, taylor, weights,
+};
 
 const PRIMES: [u64; 5] = [2, 3, 5, 7, 11];
 
@@ -23,7 +25,9 @@ pub fn all(random: &mut Random) -> Vec<String> {
         equations.push(text(random));
         equations.push(file(random));
     }
-    equations.extend((0..120).map(|p| format!("isPrime {p} ≡ mathlib.Core.Bool.{}", primes::is_prime(p))));
+    equations.extend(
+        (0..120).map(|p| format!("isPrime {p} ≡ mathlib.Core.Bool.{}", primes::is_prime(p))),
+    );
     equations
 }
 
@@ -87,7 +91,8 @@ fn numbers(random: &mut Random) -> Vec<String> {
     let (outer, inner) = (random.count(0, 3), random.count(0, 3));
     let (f, g) = (random.list(p + 1, outer), random.list(p + 1, inner));
     let places = (n + random.below(5) / 4) as usize;
-    let work = (128 * n + 8 * f.len() as u64 + 16 * n * random.below(2)).saturating_sub(random.below(5) / 4);
+    let work = (128 * n + 8 * f.len() as u64 + 16 * n * random.below(2))
+        .saturating_sub(random.below(5) / 4);
     let series = random.list(p + 1, places);
     let done = 62 + random.below(4);
     let (shown, shown_inner) = (list(&f), list(&g));

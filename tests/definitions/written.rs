@@ -28,19 +28,27 @@ fn modules(definitions: &str) -> Result<Vec<(String, Vec<String>)>> {
 
 pub fn write(definitions: &str, target: &str, equations: &[String]) -> Result<()> {
     let modules = modules(definitions)?;
-    let mut text = String::from("use mathlib.Core.List.{List, [], _∷_}\nuse mathlib.Core.Path.{_≡_, refl}\n");
+    let mut text =
+        String::from("use mathlib.Core.List.{List, [], _∷_}\nuse mathlib.Core.Path.{_≡_, refl}\n");
     for (module, names) in &modules {
         text += &format!("use Rattle.definition.specs.{module}.{{{}}}\n", names.join(", "));
     }
-    let opened: Vec<&str> = modules.iter().flat_map(|(_, names)| names.iter().map(String::as_str)).collect();
-    let unfolding = format!("unfolding {} lib.Count.ones lib.Count.onesIn lib.Count.leadingZeros", opened.join(" "));
+    let opened: Vec<&str> =
+        modules.iter().flat_map(|(_, names)| names.iter().map(String::as_str)).collect();
+    let unfolding = format!(
+        "unfolding {} lib.Count.ones lib.Count.onesIn lib.Count.leadingZeros",
+        opened.join(" ")
+    );
     for (place, equation) in equations.iter().enumerate() {
         text += &format!("\nlaw{place} : {equation}\n{unfolding}\nlaw{place} = refl\n");
     }
     let folder = Path::new(target);
     fs::create_dir_all(folder.join("src"))?;
     fs::create_dir_all(folder.join("specs"))?;
-    fs::write(folder.join("src/lib.rt"), "// Equations between the definitions and the second implementation.\n")?;
+    fs::write(
+        folder.join("src/lib.rt"),
+        "// Equations between the definitions and the second implementation.\n",
+    )?;
     fs::write(folder.join("specs/Lib.antt"), "pub mod Equations\n")?;
     fs::write(folder.join("specs/Equations.antt"), text)
 }
