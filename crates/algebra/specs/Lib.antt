@@ -49,3 +49,5 @@ pub mod Valuation
 pub mod Lists
 pub mod Bridge
 pub mod Composition
+pub mod Rows
+pub mod Halvings
