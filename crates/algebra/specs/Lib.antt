@@ -50,4 +50,5 @@ pub mod Lists
 pub mod Bridge
 pub mod Composition
 pub mod Rows
+pub mod PlaneBridge
 pub mod Halvings

@@ -4,6 +4,7 @@
 --   coefficient-plane   place j r + i of it, for j < w and i < r
 --   planeAt-plane       the polynomial that it holds has those coefficients
 --   planeAt-right planeAt-above   no polynomial that a list of w rows holds has powers from x^r or from y^w on
+--   planeAt-cut         so it is the cut of the polynomial that the list was made from
 --   plane-agree agree-plane   two such lists are equal exactly when the polynomials agree below y^w and x^r
 --   plane-planeAt       a list of w r places is the one of the polynomial that it holds
 --   planeAt-row         row j of a list is the part of r places from j r on
@@ -19,10 +20,21 @@ use native.Mathlib.Decide.{decLt}
 use native.Mathlib.Nat.{div-add-mod', div-lt-iff-lt-mul, mod-lt, mul-le-mul-right, mul-zero, suc-mul}
 use native.Mathlib.Omega.{arith}
 use Rattle.algebra.specs.Agree.{Agree}
+use Rattle.algebra.specs.Cut.{cut, cut-below, cut-beyond}
 use Rattle.algebra.specs.Lists.{coefficient-beyond, coefficient-tabulate, length-tabulate, tabulate-cong, table-of}
-use Rattle.algebra.specs.Plane.{Plane, AgreePlane}
+use Rattle.algebra.specs.Plane.{Plane, AgreePlane, cut-plane}
+use Rattle.algebra.specs.Semiring.{Semiring, naturals}
+use Rattle.algebra.specs.Series.{Series, series, 𝟘-at}
 use Rattle.definition.specs.KinoshitaLi.{planeAt, planePlace, plane}
 use Rattle.definition.specs.Lists.{tabulate, coefficient}
+
+-- a series that agrees with a below n and is 𝟘 from n on is the cut of a
+cut-unique : {A : Type 0} (R : Semiring A) {n : ℕ} {s a : Series A} → Agree n s a → ((k : ℕ) → n ≤ k → s k ≡ R .𝟘) → s ≡ cut R n a
+cut-unique {A} R {n} {s} {a} h z = fun-ext λ k. at k (decLt k n)
+  where
+    at : (k : ℕ) → Dec (k < n) → s k ≡ cut R n a k
+    at k (yes b) = h k b ∙ sym (cut-below R n a k b)
+    at k (no b) = z k (omega arith) ∙ sym (cut-beyond R n a k (omega arith))
 
 -- the row and the place in the row of place k
 row-below : (w r k : ℕ) → k < w * r → (k / r < w) × (k % r < r)
@@ -68,6 +80,12 @@ module _ (r : ℕ) where
 
     pub planeAt-plane : (a : Plane ℕ) → AgreePlane w r (planeAt r (plane r w a)) a
     planeAt-plane a j b i c = planeAt-inside (plane r w a) j i c ∙ coefficient-plane a j i b c
+
+    pub planeAt-cut : (a : Plane ℕ) → planeAt r (plane r w a) ≡ cut-plane naturals w r a
+    planeAt-cut a =
+        cut-unique (series naturals)
+        (λ j b. cut-unique naturals (planeAt-plane a j b) (λ i c. planeAt-right (plane r w a) j i c))
+        (λ j b. fun-ext λ i. planeAt-above w (plane r w a) (omega (arith, length-plane a)) j i b ∙ sym (𝟘-at naturals i))
 
     pub plane-agree : {a b : Plane ℕ} → AgreePlane w r a b → plane r w a ≡ plane r w b
     unfolding plane planePlace
