@@ -52,3 +52,4 @@ pub mod Composition
 pub mod Rows
 pub mod PlaneBridge
 pub mod Halvings
+pub mod KinoshitaLiLists

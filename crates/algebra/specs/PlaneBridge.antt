@@ -19,10 +19,11 @@ use Prim.Native.Nat.{ℕ, zero, suc, _+_, _-_, _*_, _%_, _<_}
 use mathlib.Core.Bool.{Bool, true, false, cond}
 use mathlib.Core.List.{List, [], _∷_, _++_, reverse}
 use mathlib.Core.Path.{_≡_, refl, sym, ap, ap₂, fun-ext, _∙_}
+use lib.Arith.{digits-lt}
 use lib.Dec.{eqb, ltb}
 use lib.ListN.{length, take, drop}
 use native.Mathlib.Decide.{Fin·val-path}
-use native.Mathlib.Nat.{mod-eq-of-lt}
+use native.Mathlib.Nat.{mod-eq-of-lt, mod-mod}
 use native.Mathlib.Omega.{arith}
 use Rattle.algebra.specs.Alternate.{alternate-at}
 use Rattle.algebra.specs.Bridge.{reduced, series-of, residue-series, listed, small-listed, product-series, constant-series}
@@ -37,8 +38,8 @@ use Rattle.algebra.specs.Negation.{Negation}
 use Rattle.algebra.specs.Plane.{Plane, AgreePlane, cut-plane}
 use Rattle.algebra.specs.Quotient.{quotient-next}
 use Rattle.algebra.specs.Quotient as Quotient
-use Rattle.algebra.specs.Residue.{Residue, residue, residue-value, residue-own, residue-0, residue-+, residue-*, residue-negative, residues, residues-negation, reduction}
-use Rattle.algebra.specs.Rows.{length-plane, plane-agree, agree-plane, plane-planeAt, planeAt-cut, row-plane}
+use Rattle.algebra.specs.Residue.{Residue, residue, residue-value, residue-own, residue-0, residue-equal, residue-+, residue-*, residue-negative, residues, residues-negation, reduction}
+use Rattle.algebra.specs.Rows.{length-plane, plane-agree, agree-plane, plane-planeAt, planeAt-cut, planeAt-inside, row-plane}
 use Rattle.algebra.specs.Semiring.{Semiring, naturals}
 use Rattle.algebra.specs.Series.{Series, series, series-negation, neg-at, sum-at, ⊠-at, 𝟘-at, 𝟙-constant}
 use Rattle.algebra.specs.Spread.{spread-naturals, coefficients-spread}
@@ -138,6 +139,16 @@ module _ {p : ℕ} (l : 0 < p) where
   unfolding listed-plane
   reduced-plane-listed r w a = plane-agree r w (λ j b i c. sym (reduced-plane-value a j i))
 
+  pub listed-plane-of : (r w : ℕ) (xs : List ℕ) → length xs ≡ w * r → ((k : ℕ) → k < w * r → coefficient xs k < p)
+      → listed-plane r w (plane-of r xs) ≡ xs
+  listed-plane-of r w xs e h =
+      sym (small-plane-listed r w (planeAt r xs) (λ j b i c. rw (planeAt-inside r xs j i c) (h (j * r + i) (digits-lt b c))))
+      ∙ plane-planeAt r w xs e
+
+  reduced-remainder : (a : Plane ℕ) → reduced-plane (λ j i. a j i % p) ≡ reduced-plane a
+  reduced-remainder a = fun-ext λ j. fun-ext λ i.
+      rw (reduced-plane-at, reduced-plane-at) (residue-equal l (a j i % p) (a j i) .1 (mod-mod (a j i) p))
+
   pub reduced-product2 : (a b : Plane ℕ)
       → reduced-plane (product2 a b) ≡ series (series R) ._⊗_ (reduced-plane a) (reduced-plane b)
   reduced-product2 a b = rw (product2-series a b) (coefficientwise (coefficientwise (reduction l)) .map-⊗ a b)
@@ -180,6 +191,19 @@ module _ {p : ℕ} (l : 0 < p) where
       at zero = rw (coefficients-at (coefficientwise (reduction l)), constant-series 1, ← 𝟙-constant naturals) (coefficientwise (reduction l) .map-𝟙)
       at (suc zero) = fun-ext λ i. rw (reduced-plane-at, neg-at R N, coefficients-at (reduction l)) (residue-negative l (coefficient g i))
       at (suc (suc j)) = fun-ext λ i. rw (reduced-plane-at, 𝟘-at R) (residue-0 l)
+
+  pub reduced-cutProduct2At : (a b : Plane ℕ)
+      → reduced-plane (cutProduct2At p a b) ≡ series (series R) ._⊗_ (reduced-plane a) (reduced-plane b)
+  unfolding cutProduct2At
+  reduced-cutProduct2At a b = reduced-remainder (product2 a b) ∙ reduced-product2 a b
+
+  pub window-product2-listed : (r w e : ℕ) (a b : Plane ℕ)
+      → plane r w (Plain.window e (cutProduct2At p a b))
+      ≡ listed-plane r w (Cut.window e (series (series R) ._⊗_ (reduced-plane a) (reduced-plane b)))
+  unfolding Plain.window cutProduct2At
+  window-product2-listed r w e a b =
+      reduced-plane-listed r w (Plain.window e (product2 a b))
+      ∙ ap (listed-plane r w) (reduced-window e (product2 a b) ∙ ap (Cut.window e) (reduced-product2 a b))
 
   pub cutProduct2-listed : (r w : ℕ) (a b : Plane ℕ)
       → cutProduct2 p r w a b ≡ listed-plane r w (series (series R) ._⊗_ (reduced-plane a) (reduced-plane b))
