@@ -13,9 +13,9 @@ use borrow.Author.Tests.{leb-true, leb-false}
 use lib.Count.{leadingZeros, leading-length}
 use lib.Dec.{leb}
 use lib.Pow.{pow-mono, pow-pos}
-use native.Mathlib.Nat.{add-suc, add-zero, suc-add, zero-add}
 use native.Mathlib.Decide.{decLt, ℕ-discrete}
-use native.Mathlib.Omega.{arith, by-contra}
+use native.Mathlib.Nat.{add-suc, add-zero, suc-add, zero-add}
+use native.Mathlib.Omega.{arith}
 use Rattle.definition.specs.Lists.{ceilDiv}
 use Rattle.definition.specs.Weight.{halvingsFrom, halvings}
 

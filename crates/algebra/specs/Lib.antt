@@ -17,6 +17,8 @@
 --   Taylor Vanishing Valuation                   powers of (z - c), and when a value vanishes below n
 -- The bridge to the definitions
 --   Lists Bridge Composition                     tables; lists as series over the residues; the laws of composition on lists
+--   Rows PlaneBridge                             lists in rows; these as series in two variables over the residues
+--   Halvings KinoshitaLiLists                    the number of halvings; route 4 on lists
 pub mod Semiring
 pub mod Negation
 pub mod Power

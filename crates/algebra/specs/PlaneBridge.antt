@@ -9,46 +9,46 @@
 --   length-listed-plane    its length
 --   listed-plane-agree agree-listed-plane   the lists of two series are equal exactly when the series agree below y^w and x^r
 --   row-listed-plane       row j of the list is read off coefficient j in y
+--   listed-plane-row listed-plane-column   a list of one row, and a list of rows of one place
 --   plane-of-plane plane-of-listed   the series of a list that was read off a series is the cut of that series
 --   small-plane-listed reduced-plane-listed   tables of numbers below p, and of remainders
 --   listed-plane-of        a list of w r numbers below p is read off its own series
---   reduced-product2 reduced-opposite reduced-evenPart reduced-squared reduced-window reduced-denominator reduced-numerator
---                          the operations of the definitions are those of the algebra
---   cutProduct2-listed quotient-listed   the lists of the definitions, read off a series
+--   product2-series        over the natural numbers, the product of the definitions is that of the algebra
+--   reduced-product2 reduced-cutProduct2At reduced-opposite reduced-evenPart reduced-squared reduced-window reduced-numerator
+--   reduced-denominator    after reduction, the operations of the definitions are those of the algebra
+--   reduced-column         the terms without x
+--   cutProduct2-listed window-cutProduct2-listed quotient-listed   each list of the definitions, read off a series
 use Prim.Native.Nat.{ℕ, zero, suc, _+_, _-_, _*_, _%_, _<_}
 use mathlib.Core.Bool.{Bool, true, false, cond}
-use mathlib.Core.List.{List, [], _∷_, _++_, reverse}
-use mathlib.Core.Path.{_≡_, refl, sym, ap, ap₂, fun-ext, _∙_}
+use mathlib.Core.List.{List, reverse}
+use mathlib.Core.Path.{_≡_, refl, sym, ap, fun-ext, _∙_}
 use lib.Arith.{digits-lt}
 use lib.Dec.{eqb, ltb}
 use lib.ListN.{length, take, drop}
 use native.Mathlib.Decide.{Fin·val-path}
 use native.Mathlib.Nat.{mod-eq-of-lt, mod-mod}
-use native.Mathlib.Omega.{arith}
 use Rattle.algebra.specs.Alternate.{alternate-at}
-use Rattle.algebra.specs.Bridge.{reduced, series-of, residue-series, listed, small-listed, product-series, constant-series}
+use Rattle.algebra.specs.Bridge.{reduced, series-of, listed, small-listed, product-series, constant-series}
 use Rattle.algebra.specs.Cut.{cut}
 use Rattle.algebra.specs.Cut as Cut
 use Rattle.algebra.specs.Geometric as Geometric
 use Rattle.algebra.specs.Graeffe.{opposite-at, squared-at}
 use Rattle.algebra.specs.Graeffe as Graeffe
 use Rattle.algebra.specs.Homomorphism.{Homomorphism, coefficients, coefficients-at, coefficients-constant, coefficientwise, constants, map-sum}
-use Rattle.algebra.specs.Lists.{coefficient-tabulate, sum-naturals, tabulate-suc}
+use Rattle.algebra.specs.Lists.{coefficient-tabulate, sum-naturals}
 use Rattle.algebra.specs.Negation.{Negation}
 use Rattle.algebra.specs.Plane.{Plane, AgreePlane, cut-plane}
 use Rattle.algebra.specs.Quotient.{quotient-next}
 use Rattle.algebra.specs.Quotient as Quotient
 use Rattle.algebra.specs.Residue.{Residue, residue, residue-value, residue-own, residue-0, residue-equal, residue-+, residue-*, residue-negative, residues, residues-negation, reduction}
-use Rattle.algebra.specs.Rows.{length-plane, plane-agree, agree-plane, plane-planeAt, planeAt-cut, planeAt-inside, row-plane}
+use Rattle.algebra.specs.Rows.{length-plane, plane-agree, agree-plane, plane-planeAt, planeAt-cut, planeAt-inside, row-plane, plane-row, plane-column}
 use Rattle.algebra.specs.Semiring.{Semiring, naturals}
 use Rattle.algebra.specs.Series.{Series, series, series-negation, neg-at, sum-at, ⊠-at, 𝟘-at, 𝟙-constant}
 use Rattle.algebra.specs.Spread.{spread-naturals, coefficients-spread}
-use Rattle.algebra.specs.Sum.{sum, sum-cong}
+use Rattle.algebra.specs.Sum.{sum-cong}
 use Rattle.definition.specs.KinoshitaLi as Plain
 use Rattle.definition.specs.KinoshitaLi.{planeAt, plane, negative, product2, product2Term, cutProduct2At, cutProduct2, quotientTerm, quotientNext}
-use Rattle.definition.specs.Lists.{tabulate, coefficient}
-use Rattle.definition.specs.Lists as Lists
-use Rattle.definition.specs.Substitution as Substitution
+use Rattle.definition.specs.Lists.{sum, tabulate, coefficient}
 
 -- over the natural numbers
 pub product2-series : (a b : Plane ℕ) → product2 a b ≡ series (series naturals) ._⊗_ a b
@@ -101,8 +101,11 @@ module _ {p : ℕ} (l : 0 < p) where
   abbrev pub plane-of : ℕ → List ℕ → Plane (Residue p)
   plane-of r xs = reduced-plane (planeAt r xs)
 
+  reduced-plane-row : (a : Plane ℕ) (j : ℕ) → reduced-plane a j ≡ reduced l (a j)
+  reduced-plane-row = coefficients-at (coefficientwise (reduction l))
+
   reduced-plane-at : (a : Plane ℕ) (j i : ℕ) → reduced-plane a j i ≡ residue l (a j i)
-  reduced-plane-at a j i = rw (coefficients-at (coefficientwise (reduction l)), coefficients-at (reduction l))
+  reduced-plane-at a j i = rw reduced-plane-row (coefficients-at (reduction l) (a j) i)
 
   reduced-plane-value : (a : Plane ℕ) (j i : ℕ) → reduced-plane a j i .0 ≡ a j i % p
   reduced-plane-value a j i = ap (λ x. x .0) (reduced-plane-at a j i) ∙ residue-value l (a j i)
@@ -120,10 +123,18 @@ module _ {p : ℕ} (l : 0 < p) where
   unfolding listed-plane
   row-listed-plane r w s j b = row-plane r w (values s) j b ∙ values-listed r (s j)
 
+  pub listed-plane-row : (r : ℕ) (s : Plane (Residue p)) → listed-plane r 1 s ≡ listed r (s 0)
+  unfolding listed-plane
+  listed-plane-row r s = plane-row r (values s) ∙ values-listed r (s 0)
+
+  pub listed-plane-column : (w : ℕ) (s : Plane (Residue p)) → listed-plane 1 w s ≡ listed w (λ j. s j 0)
+  unfolding listed-plane
+  listed-plane-column w s = plane-column w (values s) ∙ values-listed w (λ j. s j 0)
+
   pub plane-of-plane : (r w : ℕ) (a : Plane ℕ) → plane-of r (plane r w a) ≡ cut-plane R w r (reduced-plane a)
   plane-of-plane r w a =
       rw (planeAt-cut r w a, coefficients-cut (coefficientwise (reduction l)))
-      (ap (cut (series R) w) (fun-ext λ j. rw (coefficients-at (coefficientwise (reduction l)), coefficients-at (coefficientwise (reduction l))) (coefficients-cut (reduction l) r (a j))))
+      (ap (cut (series R) w) (fun-ext λ j. rw (reduced-plane-row, reduced-plane-row) (coefficients-cut (reduction l) r (a j))))
 
   pub plane-of-listed : (r w : ℕ) (s : Plane (Residue p)) → plane-of r (listed-plane r w s) ≡ cut-plane R w r s
   unfolding listed-plane
@@ -142,7 +153,8 @@ module _ {p : ℕ} (l : 0 < p) where
   pub listed-plane-of : (r w : ℕ) (xs : List ℕ) → length xs ≡ w * r → ((k : ℕ) → k < w * r → coefficient xs k < p)
       → listed-plane r w (plane-of r xs) ≡ xs
   listed-plane-of r w xs e h =
-      sym (small-plane-listed r w (planeAt r xs) (λ j b i c. rw (planeAt-inside r xs j i c) (h (j * r + i) (digits-lt b c))))
+      sym (small-plane-listed r w (planeAt r xs)
+      (λ j b i c. rw (planeAt-inside r xs j i c) (h (j * r + i) (digits-lt b c))))
       ∙ plane-planeAt r w xs e
 
   reduced-remainder : (a : Plane ℕ) → reduced-plane (λ j i. a j i % p) ≡ reduced-plane a
@@ -169,17 +181,20 @@ module _ {p : ℕ} (l : 0 < p) where
   pub reduced-squared : (a : Plane ℕ) → reduced-plane (Plain.squared a) ≡ Graeffe.squared R (reduced-plane a)
   unfolding Plain.squared
   reduced-squared a = fun-ext λ j.
-      rw (squared-at R, coefficients-at (coefficientwise (reduction l)), coefficients-at (coefficientwise (reduction l)), spread-naturals)
+      rw (squared-at R, reduced-plane-row, reduced-plane-row, spread-naturals)
       (coefficients-spread (reduction l) 2 (a j))
 
   pub reduced-window : (e : ℕ) (a : Plane ℕ) → reduced-plane (Plain.window e a) ≡ Cut.window e (reduced-plane a)
   unfolding Plain.window
   reduced-window e a = fun-ext λ j. fun-ext λ i. rw (reduced-plane-at, reduced-plane-at)
 
+  pub reduced-column : (a : Plane ℕ) → reduced l (λ j. a j 0) ≡ (λ j. reduced-plane a j 0)
+  reduced-column a = fun-ext λ j. coefficients-at (reduction l) (λ j. a j 0) j ∙ sym (reduced-plane-at a j 0)
+
   pub reduced-numerator : (f : List ℕ) → reduced-plane (Plain.numerator f) ≡ coefficients (constants R) (series-of l (reverse f))
   unfolding Plain.numerator
   reduced-numerator f = fun-ext λ j.
-      rw (coefficients-at (coefficientwise (reduction l)), coefficients-at (constants R), coefficients-at (reduction l), constant-series)
+      rw (reduced-plane-row, coefficients-at (constants R), coefficients-at (reduction l), constant-series)
       (coefficients-constant (reduction l) (coefficient (reverse f) j))
 
   pub reduced-denominator : (g : List ℕ)
@@ -187,9 +202,11 @@ module _ {p : ℕ} (l : 0 < p) where
   unfolding Plain.denominator Geometric.denominator
   reduced-denominator g = fun-ext at
     where
-      at : (j : ℕ) → reduced-plane (Plain.denominator p g) j ≡ Geometric.denominator (series R) (series-negation R N) (series-of l g) j
-      at zero = rw (coefficients-at (coefficientwise (reduction l)), constant-series 1, ← 𝟙-constant naturals) (coefficientwise (reduction l) .map-𝟙)
-      at (suc zero) = fun-ext λ i. rw (reduced-plane-at, neg-at R N, coefficients-at (reduction l)) (residue-negative l (coefficient g i))
+      at : (j : ℕ)
+          → reduced-plane (Plain.denominator p g) j ≡ Geometric.denominator (series R) (series-negation R N) (series-of l g) j
+      at zero = rw (reduced-plane-row, constant-series 1, ← 𝟙-constant naturals) (coefficientwise (reduction l) .map-𝟙)
+      at (suc zero) = fun-ext λ i.
+          rw (reduced-plane-at, neg-at R N, coefficients-at (reduction l)) (residue-negative l (coefficient g i))
       at (suc (suc j)) = fun-ext λ i. rw (reduced-plane-at, 𝟘-at R) (residue-0 l)
 
   pub reduced-cutProduct2At : (a b : Plane ℕ)
@@ -197,11 +214,11 @@ module _ {p : ℕ} (l : 0 < p) where
   unfolding cutProduct2At
   reduced-cutProduct2At a b = reduced-remainder (product2 a b) ∙ reduced-product2 a b
 
-  pub window-product2-listed : (r w e : ℕ) (a b : Plane ℕ)
+  pub window-cutProduct2-listed : (r w e : ℕ) (a b : Plane ℕ)
       → plane r w (Plain.window e (cutProduct2At p a b))
       ≡ listed-plane r w (Cut.window e (series (series R) ._⊗_ (reduced-plane a) (reduced-plane b)))
   unfolding Plain.window cutProduct2At
-  window-product2-listed r w e a b =
+  window-cutProduct2-listed r w e a b =
       reduced-plane-listed r w (Plain.window e (product2 a b))
       ∙ ap (listed-plane r w) (reduced-window e (product2 a b) ∙ ap (Cut.window e) (reduced-product2 a b))
 
@@ -215,7 +232,7 @@ module _ {p : ℕ} (l : 0 < p) where
     U = Quotient.quotient R N (reduced l a) (reduced l b)
 
     quotient-residue : (k : ℕ) (u : List ℕ) → ((i : ℕ) → i < k → residue l (coefficient u i) ≡ U i)
-        → residue l (a k + Lists.sum k (quotientTerm p b u k)) ≡ U k
+        → residue l (a k + sum k (quotientTerm p b u k)) ≡ U k
     unfolding quotientTerm U
     quotient-residue k u h =
         rw (quotient-next R N (reduced l b) unit, residue-+ l, sum-naturals, map-sum (reduction l), coefficients-at (reduction l))
