@@ -20,7 +20,7 @@ formatted: tools
 second: tools $(SECOND)
 	$(SECOND)
 
-$(SECOND): $(wildcard tests/second/*.rs)
+$(SECOND): $(wildcard tests/second/*.rs tests/second/*/*.rs)
 	mkdir -p $(@D)
 	rustc --edition 2021 -O -D warnings -o $@ tests/second/main.rs
 

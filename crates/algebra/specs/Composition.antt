@@ -1,9 +1,11 @@
 -- Laws of the composition f(g) modulo x^n and p, of lists. Assumes nothing.
 --
 --   series-composed    the series of a composition is the value of f at the series of g, below n
+--   series-constant    the series of a list without constant term has none
 --   composed-∷         Horner's rule: on which route 1 stands
 --   composed-++        the composition of an appended list, on which route 2 stands
 --   composed-agree     the composition depends on the inner list below n alone
+--   composed-assoc     composition is associative, where the innermost list has no constant term
 --   composed-equal     when two compositions with one inner list are equal (demand 3, for lists)
 use Prim.Native.Nat.{ℕ, zero, suc, _*_, _<_}
 use mathlib.Core.List.{List, _∷_, _++_}
@@ -12,7 +14,7 @@ use mathlib.Core.Path.{_≡_, sym, ap, _∙_}
 use lib.ListN.{length}
 use native.Mathlib.Nat.{mod-eq-of-lt}
 use native.Mathlib.Omega.{arith}
-use Rattle.algebra.specs.Agree.{Agree, Vanish, agree-refl, agree-⊞, agree-⊠}
+use Rattle.algebra.specs.Agree.{Agree, Vanish, agree-refl, agree-sym, agree-trans, agree-⊞, agree-⊠}
 use Rattle.algebra.specs.Bridge.{series-of, residue-series, scalars, value, listed-agree, agree-listed, series-listed, composed-listed, hornerStep-listed, joined-listed, cutPower-listed}
 use Rattle.algebra.specs.Evaluate.{evaluate-∷, evaluate-++, evaluate-agree}
 use Rattle.algebra.specs.Homomorphism.{coefficients-at}
@@ -21,6 +23,7 @@ use Rattle.algebra.specs.Prime.{prime-positive}
 use Rattle.algebra.specs.Residue.{Residue, residue, residues, residues-negation, reduction, residue-0, residue-equal, residue-zero}
 use Rattle.algebra.specs.Semiring.{⊗-comm}
 use Rattle.algebra.specs.Series.{Series, tail, shift, shift-0, shift-suc, decompose, indeterminate-⊠}
+use Rattle.algebra.specs.Substitution.{evaluate-assoc}
 use Rattle.algebra.specs.Vanishing.{taylor-agreement}
 use Rattle.algebra.specs.Valuation.{valuation-positive, valuation-zero, valuation-nonzero}
 use Rattle.algebra.specs.Lists.{tabulate-cong, coefficient-tabulate, ceilDiv-below}
@@ -58,6 +61,19 @@ module _ {p : ℕ} (l : 0 < p) where
   composed-agree n f g h e =
       rw (composed-listed l n f g, composed-listed l n f h)
       (listed-agree (evaluate-agree (residues l) (scalars l) f (series-agree g h e)))
+
+  pub series-constant : (h : List ℕ) → coefficient h 0 ≡ 0 → series-of l h 0 ≡ residues l .𝟘
+  series-constant h e = rw (coefficients-at (reduction l), e, residue-0 l)
+
+  pub composed-assoc : (n : ℕ) (f g h : List ℕ) → coefficient h 0 ≡ 0
+      → composed p n (composed p n f g) h ≡ composed p n f (composed p n g h)
+  unfolding coefficient
+  composed-assoc n f g h e =
+      rw (composed-listed l n (composed p n f g) h, composed-listed l n f (composed p n g h))
+      (listed-agree
+      (agree-trans
+      (evaluate-assoc (reduction l) (series-of l h) (series-constant h e) f g (composed p n f g) (series-composed n f g))
+      (evaluate-agree (residues l) (scalars l) f (agree-sym (series-composed n g h)))))
 
 module _ {p : ℕ} (P : Prime p) (n : ℕ) (g : List ℕ) (below : (k : ℕ) → coefficient g k < p) where
   positive : 0 < p

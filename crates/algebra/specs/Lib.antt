@@ -7,7 +7,7 @@
 -- Series
 --   Series Agree Cut                             series are again a semiring; agreement below n; windows, degrees, cuts
 --   Substitution                                 substitution of a series without constant term; associativity
---   Spread Quotient Alternate                    a(x^p); P / Q; a(-x), even and odd part
+--   Spread Quotient Alternate Derivative         a(x^p); P / Q; a(-x), even and odd part; derivatives
 -- Numbers
 --   Remainder Prime Binomial                     remainders; Euclid's lemma and trial division; binomial coefficients
 --   Residue Frobenius Fermat                     residues modulo p; the p-th power; Fermat and inverses
@@ -15,8 +15,9 @@
 --   Parts                                        route 3: a list by powers modulo p
 --   Plane Graeffe Geometric KinoshitaLi          route 4: two variables, Q(x, y) Q(-x, y), P / (1 - y g), the level and the recursion
 --   Taylor Vanishing Valuation                   powers of (z - c), and when a value vanishes below n
+--   Reversion                                    the reverse series: unique, from both sides, and the Newton step
 -- The bridge to the definitions
---   Lists Bridge Composition                     tables; lists as series over the residues; the laws of composition on lists
+--   Lists Bounded Bridge Composition Inverse     tables; places below p; lists as series over the residues; the laws of composition and of reversion on lists
 --   Rows PlaneBridge                             lists in rows; these as series in two variables over the residues
 --   Halvings KinoshitaLiLists                    the number of halvings; route 4 on lists
 pub mod Semiring
@@ -34,6 +35,7 @@ pub mod Substitution
 pub mod Spread
 pub mod Quotient
 pub mod Alternate
+pub mod Derivative
 pub mod Remainder
 pub mod Prime
 pub mod Binomial
@@ -48,9 +50,12 @@ pub mod KinoshitaLi
 pub mod Taylor
 pub mod Vanishing
 pub mod Valuation
+pub mod Reversion
 pub mod Lists
+pub mod Bounded
 pub mod Bridge
 pub mod Composition
+pub mod Inverse
 pub mod Rows
 pub mod PlaneBridge
 pub mod Halvings

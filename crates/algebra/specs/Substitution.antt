@@ -8,7 +8,9 @@
 --   substitute-agree          substitution respects agreement below a place, in a and in u
 --
 -- For u with constant term 𝟘, given as u and the proof of that:
+--   vanish-1                  u vanishes below 1
 --   recursion-unique          the equations F x = c x + u · F (next x) have at most one solution F
+--   recursion-agree           two solutions below n agree below n
 --   substitute-partial-sum    a(u) agrees below n with the sum of the first n terms
 --   substitute-horner         a(u) is a_0 plus u times the substitution into the tail
 --   substitute-0              its constant term is a_0
@@ -18,15 +20,23 @@
 --   substitute-polynomial     of a polynomial it is the value at u
 --   substitute-into-indeterminate   a(x) is a
 --   substitute-assoc          (a(u))(w) is a(u(w))
+--   substitute-assoc-agree    the same below n, where a(u) and u(w) are known below n
+--
+-- For lists of coefficients, taken along a homomorphism:
+--   substitute-coefficients   substitution into the series of a list is the value of the list at u
+--   evaluate-assoc            (f(g))(u) is f(g(u)) below n, where f(g) is known below n, as a list
 use Prim.Native.Nat.{ℕ, zero, suc, _+_}
 use mathlib.Core.List.{List}
 use mathlib.Core.Path.{_≡_, sym, ap, fun-ext, _∙_}
 use native.Mathlib.Nat.{le-dest, lt-suc-self, suc-add}
 use native.Mathlib.Omega.{arith}
-use Rattle.algebra.specs.Agree.{Agree, Vanish, agree-refl, agree-sym, agree-equal, agree-⊞}
-use Rattle.algebra.specs.Agree.{agree-⊠, agree-sum, agree-power, equal-agree, vanish-agree-⊠}
+use Rattle.algebra.specs.Agree.{Agree, Vanish, agree-refl, agree-sym, agree-trans}
+use Rattle.algebra.specs.Agree.{agree-equal, agree-⊞, agree-⊠, agree-sum, agree-power}
+use Rattle.algebra.specs.Agree.{equal-agree, vanish-agree-⊠}
 use Rattle.algebra.specs.Evaluate.{evaluate, polynomial, map-evaluate, evaluate-indeterminate}
-use Rattle.algebra.specs.Homomorphism.{Homomorphism, constants}
+use Rattle.algebra.specs.Homomorphism.{Homomorphism, composite, constants}
+use Rattle.algebra.specs.Homomorphism.{coefficients, coefficients-constant}
+use Rattle.algebra.specs.Homomorphism.{coefficients-indeterminate, coefficientwise}
 use Rattle.algebra.specs.Homomorphism.{constant-𝟘, constant-⊕, constant-⊗}
 use Rattle.algebra.specs.Power.{power, power-0, power-suc}
 use Rattle.algebra.specs.Semiring.{Semiring, ⊕-𝟘, 𝟘-⊕, 𝟘-⊗, ⊗-𝟘}
@@ -84,22 +94,28 @@ module _ {A : Type 0} (R : Semiring A) where
       (λ i b. agree-⊠ R (agree-equal (ap (constant R) (h i (omega arith)))) (agree-power R i g)) k l
 
   module _ (u : Series A) (h : u 0 ≡ 𝟘) where
-    below-1 : Vanish R 1 u
-    below-1 zero l = h
-    below-1 (suc k) l = absurd (omega arith)
+    pub vanish-1 : Vanish R 1 u
+    vanish-1 zero l = h
+    vanish-1 (suc k) l = absurd (omega arith)
 
     agree-further : {n : ℕ} (c : Series A) {a b : Series A} → Agree n a b
         → Agree (suc n) (c ⊞ u ⊠ a) (c ⊞ u ⊠ b)
-    agree-further c e = agree-⊞ R (agree-refl c) (λ k l. vanish-agree-⊠ R 1 below-1 e k (omega arith))
+    agree-further c e =
+        agree-⊞ R (agree-refl c) (λ k l. vanish-agree-⊠ R 1 vanish-1 e k (omega arith))
 
-    pub recursion-unique : {X : Type 0} (c : X → Series A) (next : X → X) (F G : X → Series A)
-        → ((x : X) → F x ≡ c x ⊞ u ⊠ F (next x)) → ((x : X) → G x ≡ c x ⊞ u ⊠ G (next x))
-        → (x : X) → F x ≡ G x
-    recursion-unique {X} c next F G f g x = equal-agree (λ n. below n x)
-      where
-        below : (n : ℕ) (x : X) → Agree n (F x) (G x)
-        below zero x = λ k l. absurd (omega arith)
-        below (suc n) x = rw (f x, g x) (agree-further (c x) (below n (next x)))
+    module _ {X : Type 0} (c : X → Series A) (next : X → X) (F G : X → Series A) where
+      pub recursion-agree : (n : ℕ) → ((x : X) → Agree n (F x) (c x ⊞ u ⊠ F (next x)))
+          → ((x : X) → Agree n (G x) (c x ⊞ u ⊠ G (next x))) → (x : X) → Agree n (F x) (G x)
+      recursion-agree zero f g x = λ k l. absurd (omega arith)
+      recursion-agree (suc n) f g x =
+          let e : Agree n (F (next x)) (G (next x)) =
+          recursion-agree n (λ y k l. f y k (omega arith)) (λ y k l. g y k (omega arith)) (next x) in
+          agree-trans (f x) (agree-trans (agree-further (c x) e) (agree-sym (g x)))
+
+      pub recursion-unique : ((x : X) → F x ≡ c x ⊞ u ⊠ F (next x))
+          → ((x : X) → G x ≡ c x ⊞ u ⊠ G (next x)) → (x : X) → F x ≡ G x
+      recursion-unique f g x =
+          equal-agree (λ n. recursion-agree n (λ y. agree-equal (f y)) (λ y. agree-equal (g y)) x)
 
     partial-sum-+ : (n j : ℕ) (a : Series A) → Agree n (partial-sum a u (n + j)) (partial-sum a u n)
     partial-sum-+ zero j a = λ k l. absurd (omega arith)
@@ -180,3 +196,41 @@ module _ {A : Type 0} (R : Semiring A) where
     where
       e : substitute u w 0 ≡ 𝟘
       e = substitute-0 w g u ∙ h
+
+  pub substitute-assoc-agree : {n : ℕ} (a u w : Series A) {b v : Series A} → u 0 ≡ 𝟘 → w 0 ≡ 𝟘
+      → Agree n b (substitute a u) → Agree n v (substitute u w)
+      → Agree n (substitute b w) (substitute a v)
+  substitute-assoc-agree a u w h g e d =
+      agree-trans (substitute-agree e (agree-refl w))
+      (rw (substitute-assoc a u w h g) (substitute-agree (agree-refl a) (agree-sym d)))
+
+-- Lists over S, their coefficients taken along φ.
+module _ {A B : Type 0} {R : Semiring A} {S : Semiring B} (φ : Homomorphism S R) where
+  abbrev scalars : Homomorphism S (series R)
+  scalars = composite (constants R) φ
+
+  module _ (u : Series A) (h : u 0 ≡ R .𝟘) where
+    substitute-evaluate : (f : List B) (s : Series A)
+        → substitute R (evaluate scalars f s) u ≡ evaluate scalars f (substitute R s u)
+    substitute-evaluate =
+        map-evaluate (substitution R u h) scalars scalars (λ b. substitute-constant R u h (φ .map b))
+
+    pub substitute-coefficients : (f : List B)
+        → substitute R (coefficients φ (polynomial S f)) u ≡ evaluate (composite (constants R) φ) f u
+    substitute-coefficients f =
+        rw (
+          ← evaluate-indeterminate S f,
+          map-evaluate (coefficientwise φ) (constants S) scalars (coefficients-constant φ) f,
+          coefficients-indeterminate φ,
+          substitute-evaluate f,
+          substitute-indeterminate R u h,
+        )
+
+    pub evaluate-assoc : {n : ℕ} (f g c : List B)
+        → Agree n (coefficients φ (polynomial S c))
+        (evaluate (composite (constants R) φ) f (coefficients φ (polynomial S g)))
+        → Agree n (evaluate (composite (constants R) φ) c u)
+        (evaluate (composite (constants R) φ) f (evaluate (composite (constants R) φ) g u))
+    evaluate-assoc f g c e =
+        rw (← substitute-coefficients c, ← substitute-coefficients g, ← substitute-evaluate f)
+        (substitute-agree R e (agree-refl u))

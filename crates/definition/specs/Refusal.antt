@@ -11,8 +11,7 @@ use mathlib.Core.List.{List, [], _∷_}
 use lib.Dec.{leb, ltb, eqb}
 use lib.ListN.{length}
 use Rattle.definition.specs.Lists.{coefficient}
-use Rattle.definition.specs.Prime.{isPrime}
-use Rattle.definition.specs.PrimeTable.{largestModulus}
+use Rattle.definition.specs.Prime.{isPrime, largestModulus}
 
 -- a number and the test that gives it
 pub record Test : Type 0 where

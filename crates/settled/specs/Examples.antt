@@ -30,8 +30,7 @@ use Rattle.definition.specs.Weight.{
   kinoshitaLiWeight,
   weight,
 }
-use Rattle.definition.specs.Prime.{indivisible, isPrime}
-use Rattle.definition.specs.PrimeTable.{largestModulus}
+use Rattle.definition.specs.Prime.{indivisible, isPrime, largestModulus}
 use Rattle.definition.specs.Refusal.{
   test,
   first,

@@ -13,8 +13,7 @@ use lib.ListN.{length}
 use Rattle.definition.specs.Lists.{sum, tabulate, coefficient, ceilDiv}
 use Rattle.definition.specs.Substitution.{productTerm, product, constant, power, substitutedTerm, substituted, composedAt, composed}
 use Rattle.definition.specs.Weight.{hornerWeight, weight}
-use Rattle.definition.specs.Prime.{indivisible, isPrime}
-use Rattle.definition.specs.PrimeTable.{largestModulus}
+use Rattle.definition.specs.Prime.{indivisible, isPrime, largestModulus}
 use Rattle.definition.specs.Refusal.{test, first, limit, composeWork, badRoute, badModulus, badOrder, tooLong, notPlaces, exceeds, composeRefusal}
 use Rattle.definition.specs.Text.{decimalWithin, decimal, space, lineEnd, okLead, noLead, spaced, accepted, refused, rendered}
 use Rattle.definition.specs.Job.{headerBytes, mostBytes, mostPlaces, word, field, route, modulus, order, wordOf, listAt, outer, inner, tooLarge, misplaced, cutShort, composeNumber, jobRefusal, jobText}

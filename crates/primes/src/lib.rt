@@ -1,0 +1,46 @@
+// The sixteen largest primes below 2147483648.
+use field::Field;
+ghost use Rattle.primes.specs.Entry.{Entry};
+
+// Largest first; entry 0 is the largest modulus.
+const TABLE: [u32; 16] = [
+    Field::LARGEST,
+    2147483629,
+    2147483587,
+    2147483579,
+    2147483563,
+    2147483549,
+    2147483543,
+    2147483497,
+    2147483489,
+    2147483477,
+    2147483423,
+    2147483399,
+    2147483353,
+    2147483323,
+    2147483269,
+    2147483249,
+];
+
+// The number that a call returns, and the prime: 0 and an entry, or a refusal and 0.
+pub struct Answer {
+    pub number: u32,
+    pub prime: u32,
+}
+
+// Entry `index` of the table.
+pub fn prime(index: u32) -> Answer
+    ensures { λ r. ⌜ Entry index r ⌝ }
+{
+    if index < 16 {
+        Answer {
+            number: 0,
+            prime: TABLE[index as usize],
+        }
+    } else {
+        Answer {
+            number: 14,
+            prime: 0,
+        }
+    }
+}

@@ -1,0 +1,143 @@
+//! The job program: files written from known lists, whole or broken on purpose, and what is
+//! printed for them.
+
+use super::broken::{lowest, put_too_large, some};
+use super::render::{accepted_text, refused_text};
+use super::support::{modulus, weight, Tally};
+use crate::plain::job;
+use crate::plain::random::Random;
+use crate::plain::substitution::substitution;
+
+const FILES: usize = 4000;
+
+/// A file in the making: the header's numbers and all that follows.
+#[derive(Debug)]
+struct File {
+    header: [u32; 7],
+    rest: Vec<u8>,
+}
+
+const ROUTE: usize = 0;
+const MODULUS: usize = 1;
+const ORDER: usize = 2;
+
+/// The places of the two counts; each is followed by its list's offset.
+const COUNTS: [usize; 2] = [3, 5];
+
+impl File {
+    /// A file with these lists and some spare bytes. Where g is the end of f, the lists overlap.
+    fn write(random: &mut Random, lead: [u32; 3], f: &[u32], g: &[u32]) -> File {
+        let [route, modulus, order] = lead;
+        let mut file = File { header: [0; 7], rest: Vec::new() };
+        let (m, inner_count) = (f.len() as u32, g.len() as u32);
+        let outer = file.add(random, f);
+        let overlaps = inner_count > 0 && f.ends_with(g);
+        let inner = if overlaps { outer + 4 * (m - inner_count) } else { file.add(random, g) };
+        file.header = [route, modulus, order, m, outer, inner_count, inner];
+        file.add_spare_bytes(random);
+        file
+    }
+
+    /// Adds spare bytes and then the list; its offset. An empty list is given any offset.
+    fn add(&mut self, random: &mut Random, list: &[u32]) -> u32 {
+        self.add_spare_bytes(random);
+        let offset = 28 + self.rest.len() as u32;
+        self.rest.extend(list.iter().flat_map(|number| number.to_le_bytes()));
+        if list.is_empty() {
+            return random.pick(&[0, 27, 28, 5000, u32::MAX]);
+        }
+        offset
+    }
+
+    fn add_spare_bytes(&mut self, random: &mut Random) {
+        let count = random.count(0, 5);
+        self.rest.extend((0..count).map(|_| random.next() as u8));
+    }
+
+    /// Alters the file in one of the ways that 1, 2, 3, 12 or 13 names.
+    fn alter(&mut self, random: &mut Random, number: u32) {
+        let end = 28 + self.rest.len() as u32;
+        match number {
+            1 => self.header[ROUTE] = random.pick(&[0, 5, 257, u32::MAX]),
+            2 => self.header[MODULUS] = random.pick(&[0, 1, 9, 2_147_483_648, 4_294_967_291]),
+            3 => self.header[ORDER] = 0,
+            12 => match random.below(3) {
+                0 => self.rest.resize(4096 - 28 + random.count(1, 40), 0),
+                1 => self.header[random.pick(&COUNTS)] = random.pick(&[65, u32::MAX]),
+                _ => self.header[ORDER] = random.pick(&[65, 4097, u32::MAX]),
+            },
+            13 => {
+                let filled = COUNTS.into_iter().filter(|&place| self.header[place] > 0);
+                let count = random.pick(&filled.collect::<Vec<usize>>());
+                let last = end.saturating_sub(self.header[count].saturating_mul(4));
+                let misplaced = [0, 27, last + 1, end, u32::MAX, u32::MAX - 3];
+                self.header[count + 1] = random.pick(&misplaced);
+            }
+            _ => (),
+        }
+    }
+
+    fn bytes(&self) -> Vec<u8> {
+        let header = self.header.iter().flat_map(|number| number.to_le_bytes());
+        header.chain(self.rest.iter().copied()).collect()
+    }
+}
+
+pub fn job(tally: &mut Tally, random: &mut Random) {
+    for _ in 0..FILES {
+        let broken = some(random, &[1, 2, 3, 8, 12, 13]);
+        written(tally, random, &broken);
+    }
+    for number in [1, 2, 3, 8, 12, 13] {
+        for _ in 0..20 {
+            written(tally, random, &[number]);
+        }
+    }
+    cut_short(tally, random);
+}
+
+fn written(tally: &mut Tally, random: &mut Random, broken: &[u32]) {
+    let (p, n) = (modulus(random), random.count(1, 64));
+    let (m, inner_count) = (random.count(0, 24), random.count(0, 24));
+    let (mut f, mut g) = (random.list(p, m), random.list(p, inner_count));
+    if broken.contains(&13) {
+        f.push(0);
+    }
+    if broken.contains(&8) {
+        let either = if random.once_in(2) { &mut f } else { &mut g };
+        put_too_large(random, p, either);
+    } else if !f.is_empty() && random.once_in(4) {
+        g = f[random.count(0, f.len() - 1)..].to_vec();
+    }
+    let route = random.route();
+    let mut file = File::write(random, [route as u32, p as u32, n as u32], &f, &g);
+    for number in broken {
+        file.alter(random, *number);
+    }
+    let wanted = if broken.is_empty() {
+        let weight = weight(route, p, f.len(), n);
+        accepted_text(n as u64, weight, &substitution(p, &f, &g, n))
+    } else {
+        let first = [12, 13].into_iter().find(|number| broken.contains(number));
+        refused_text(first.unwrap_or(lowest(broken)))
+    };
+    tally.equal((broken, &file), job::run(&file.bytes()), wanted);
+}
+
+/// A header that is cut short states no order and no count; at 28 bytes it does.
+fn cut_short(tally: &mut Tally, random: &mut Random) {
+    let too_large = File { header: [1, 7, 65, 65, 28, 65, 28], rest: Vec::new() }.bytes();
+    let header = [random.route() as u32, 7, 2, 0, 0, 0, 0];
+    let empty_lists = File { header, rest: Vec::new() }.bytes();
+    for length in 0..28 {
+        tally.equal(length, job::run(&too_large[..length]), refused_text(13));
+        tally.equal(length, job::run(&empty_lists[..length]), refused_text(13));
+    }
+    tally.equal(&too_large, job::run(&too_large), refused_text(12));
+    tally.equal(&empty_lists, job::run(&empty_lists), accepted_text(2, 0, &[0, 0]));
+    for (length, number) in [(4096, 0), (4097, 12)] {
+        let padded = [empty_lists.clone(), vec![255; length - 28]].concat();
+        let wanted = if number == 0 { accepted_text(2, 0, &[0, 0]) } else { refused_text(number) };
+        tally.equal(("bytes", length), job::run(&padded), wanted);
+    }
+}

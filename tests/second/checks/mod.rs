@@ -1,0 +1,14 @@
+//! The checks of the plain implementation, one module for each subject.
+
+pub mod broken;
+pub mod calls;
+pub mod chain;
+pub mod equality;
+pub mod job;
+pub mod primes;
+pub mod render;
+pub mod reversion;
+pub mod routes;
+pub mod settled;
+pub mod support;
+pub mod traps;

@@ -1,0 +1,40 @@
+//! Primality and the table against a sieve.
+
+use super::support::Tally;
+use crate::plain::calls;
+use crate::plain::primes::{is_prime, LARGEST_MODULUS};
+use crate::plain::random::Random;
+
+/// The primes from the first number, at least 2, to the last: what is left when all multiples of
+/// every smaller number have been struck out.
+fn sieve(first: u64, last: u64) -> Vec<u64> {
+    let mut struck = vec![false; (last - first + 1) as usize];
+    for divisor in (2..).take_while(|d| d * d <= last) {
+        let start = (2 * divisor).max(first.div_ceil(divisor) * divisor);
+        for multiple in (start..=last).step_by(divisor as usize) {
+            struck[(multiple - first) as usize] = true;
+        }
+    }
+    (first..=last).filter(|number| !struck[(number - first) as usize]).collect()
+}
+
+pub fn primality(tally: &mut Tally, _: &mut Random) {
+    for (first, last) in [(2, 20_000), (LARGEST_MODULUS - 2000, LARGEST_MODULUS)] {
+        let primes = sieve(first, last);
+        for number in first..=last {
+            tally.equal(number, is_prime(number), primes.binary_search(&number).is_ok());
+        }
+    }
+    tally.equal("below 2", (is_prime(0), is_prime(1)), (false, false));
+}
+
+pub fn table(tally: &mut Tally, _: &mut Random) {
+    let largest_first = sieve(LARGEST_MODULUS - 2000, LARGEST_MODULUS).into_iter().rev();
+    for (index, prime) in largest_first.take(16).enumerate() {
+        tally.equal(("index", index), calls::table(index as u64), (0, prime as u32));
+    }
+    tally.equal("index 0", calls::table(0), (0, 2_147_483_647));
+    for index in [16, 17, 1 << 32, u64::MAX] {
+        tally.equal(("index", index), calls::table(index), (14, 0));
+    }
+}

@@ -1,0 +1,89 @@
+//! Rendering against the language's own formatting.
+
+use super::broken::{lowest, other_length, some, UNFIT_ORDERS};
+use super::support::Tally;
+use crate::plain::random::Random;
+use crate::plain::render;
+
+const CALLS: usize = 2000;
+
+/// The printed answer of an accepted job.
+pub fn accepted_text(n: u64, weight: u64, list: &[u32]) -> Vec<u8> {
+    let coefficients: Vec<String> = list.iter().map(u32::to_string).collect();
+    format!("ok {n} {weight}\n{}\n", coefficients.join(" ")).into_bytes()
+}
+
+/// The printed answer of a refusal.
+pub fn refused_text(number: u32) -> Vec<u8> {
+    format!("no {number}\n").into_bytes()
+}
+
+/// A number of any size, from few to many digits.
+fn number_of_any_size(random: &mut Random) -> u64 {
+    let shorter = random.next() >> random.below(64);
+    random.pick(&[0, 1, 9, 10, u64::MAX, shorter])
+}
+
+pub fn render(tally: &mut Tally, random: &mut Random) {
+    for _ in 0..CALLS {
+        let number = number_of_any_size(random);
+        tally.equal(number, render::digits(number), number.to_string().into_bytes());
+        let broken = some(random, &[3, 6, 7]);
+        accepted_answer(tally, random, &broken);
+        let short = random.once_in(3);
+        refusal(tally, random, short);
+    }
+}
+
+fn accepted_answer(tally: &mut Tally, random: &mut Random, broken: &[u32]) {
+    let places = random.count(1, 8);
+    let mut n = places as u64;
+    let weight = number_of_any_size(random);
+    let mut list: Vec<u32> = (0..places).map(|_| number_of_any_size(random) as u32).collect();
+    let text = accepted_text(n, weight, &list);
+    let buffer = text_buffer(random, text.len(), broken.contains(&7));
+    for number in broken {
+        match number {
+            3 => n = random.pick(&UNFIT_ORDERS),
+            6 => list.resize(other_length(random, places), 9),
+            _ => (),
+        }
+    }
+    let wanted = if broken.is_empty() { Ok(text) } else { Err(lowest(broken)) };
+    rendered(tally, (0, n, weight, &list), &buffer, wanted);
+}
+
+/// With a refusal number only 7 is met, whatever the order and the list.
+fn refusal(tally: &mut Tally, random: &mut Random, short: bool) {
+    let number = (number_of_any_size(random) as u32).max(1);
+    let text = refused_text(number);
+    let buffer = text_buffer(random, text.len(), short);
+    let places = random.count(0, 3);
+    let list = random.buffer(places);
+    let wanted = if short { Err(7) } else { Ok(text) };
+    rendered(tally, (number, random.pick(&[0, 1, 2, 4097]), 5, &list), &buffer, wanted);
+}
+
+fn text_buffer(random: &mut Random, needed: usize, short: bool) -> Vec<u8> {
+    let length = if short { random.pick(&[0, needed - 1]) } else { needed + random.count(0, 3) };
+    (0..length).map(|_| random.next() as u8).collect()
+}
+
+/// Renders into a copy of the buffer; wanted is the text, or the number of the refusal.
+fn rendered(
+    tally: &mut Tally,
+    (number, n, weight, list): (u32, u64, u64, &[u32]),
+    before: &[u8],
+    wanted: Result<Vec<u8>, u32>,
+) {
+    let mut buffer = before.to_vec();
+    let found = render::render(number, n, weight, list, &mut buffer);
+    let left = match wanted {
+        Ok(text) => {
+            let count = text.len();
+            ((0, count as u64), [text, before[count..].to_vec()].concat())
+        }
+        Err(refusal) => ((refusal, 0), before.to_vec()),
+    };
+    tally.equal((number, n, weight, list, before.len()), (found, buffer), left);
+}

@@ -1,0 +1,48 @@
+//! Each route gives the substitution, and the weight counted product by product is its rule's.
+
+use super::support::{compose, weight, Case, Tally};
+use crate::plain::calls::Answer;
+use crate::plain::random::Random;
+use crate::plain::{routes, substitution::substitution, weights};
+
+const CASES: usize = 6000;
+
+pub fn values_and_weights(tally: &mut Tally, random: &mut Random) {
+    for _ in 0..CASES {
+        let case = Case::draw(random, 20);
+        let value = substitution(case.p, &case.f, &case.g, case.n);
+        for route in 1..=4 {
+            let weight = weight(route, case.p, case.f.len(), case.n);
+            let found = compose(random, route, &case);
+            let wanted = (Answer { number: 0, weight }, value.clone());
+            tally.equal((route, &case), found, wanted);
+        }
+    }
+}
+
+/// Route 2 with other block lengths.
+pub fn block_lengths(tally: &mut Tally, random: &mut Random) {
+    for _ in 0..CASES / 2 {
+        let case = Case::draw(random, 20);
+        let length = random.count(1, 12);
+        let found = routes::ranged(case.p, &case.f, &case.g, case.n, length);
+        let value = substitution(case.p, &case.f, &case.g, case.n);
+        let weight = weights::ranged(case.f.len() as u64, case.n as u64, length as u64);
+        tally.equal((length, &case), found, (value, weight));
+    }
+}
+
+/// A few larger cases, where each route has several levels.
+pub fn larger_cases(tally: &mut Tally, random: &mut Random) {
+    for p in [2, 3, 7, 2_147_483_647] {
+        for (n, m) in [(64, 63), (65, 200), (150, 40), (1, 300), (200, 2)] {
+            let case = Case { p, n, f: random.list(p, m), g: random.list(p, n) };
+            let value = substitution(p, &case.f, &case.g, n);
+            for route in 1..=4 {
+                let found = routes::by_number(route, p, &case.f, &case.g, n);
+                let wanted = (value.clone(), weight(route, p, m, n));
+                tally.equal((route, &case), found, wanted);
+            }
+        }
+    }
+}

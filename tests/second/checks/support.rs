@@ -1,0 +1,113 @@
+//! What the checks share: the tally, cases drawn at random, all short lists, multiples of powers
+//! of (z - c), and calls with dirty buffers.
+
+use crate::plain::calls::{self, Answer};
+use crate::plain::random::Random;
+use crate::plain::substitution::substitution;
+use crate::plain::{field, primes, products, refusals, weights};
+use std::fmt::Debug;
+use std::sync::LazyLock;
+
+/// How many failures of a group are shown with their input.
+const SHOWN: u64 = 3;
+
+/// The comparisons of one group.
+#[derive(Default)]
+pub struct Tally {
+    pub passed: u64,
+    pub failed: u64,
+}
+
+impl Tally {
+    pub fn equal<T: PartialEq + Debug>(&mut self, input: impl Debug, found: T, wanted: T) {
+        if found == wanted {
+            self.passed += 1;
+            return;
+        }
+        self.failed += 1;
+        if self.failed <= SHOWN {
+            println!("failed: {input:?}\n  found  {found:?}\n  wanted {wanted:?}");
+        }
+    }
+}
+
+/// The input of a composition.
+#[derive(Debug)]
+pub struct Case {
+    pub p: u64,
+    pub n: usize,
+    pub f: Vec<u32>,
+    pub g: Vec<u32>,
+}
+
+impl Case {
+    /// A case with order up to the limit; g has a constant term in about half of the cases.
+    pub fn draw(random: &mut Random, limit: usize) -> Case {
+        let p = modulus(random);
+        let n = random.count(1, limit);
+        let (m, inner_count) = (random.count(0, limit + 4), random.count(0, n + 3));
+        let f = random.list(p, m);
+        let mut g = random.list(p, inner_count);
+        if inner_count > 0 && random.once_in(3) {
+            g[0] = 0;
+        }
+        Case { p, n, f, g }
+    }
+}
+
+/// A prime, mostly small, else from the table.
+pub fn modulus(random: &mut Random) -> u64 {
+    static TABLE: LazyLock<Vec<u32>> = LazyLock::new(primes::table);
+    match random.below(4) {
+        0 => u64::from(random.pick(&TABLE)),
+        1 => 2,
+        _ => random.pick(&[3, 5, 7, 11, 13, 31, 65537]),
+    }
+}
+
+/// All lists over the numbers below p with at most so many places.
+pub fn lists_up_to(p: u32, longest: usize) -> Vec<Vec<u32>> {
+    let mut all = vec![Vec::new()];
+    let mut first = 0;
+    for _ in 0..longest {
+        let last = all.len();
+        for i in first..last {
+            for coefficient in 0..p {
+                all.push([all[i].as_slice(), &[coefficient]].concat());
+            }
+        }
+        first = last;
+    }
+    all
+}
+
+/// f + factor·(z - c)^exponent.
+pub fn add_power(p: u64, f: &[u32], c: u32, exponent: usize, factor: u32) -> Vec<u32> {
+    let difference = [field::subtract(p, 0, c), 1];
+    let monomial = [vec![0; exponent], vec![factor]].concat();
+    let count = f.len().max(exponent + 1);
+    let multiple = substitution(p, &monomial, &difference, count);
+    products::sum(p, &products::places(f, count), &multiple)
+}
+
+/// The weight of a route by its rule, with block length 4.
+pub fn weight(route: u64, p: u64, m: usize, n: usize) -> u64 {
+    weights::by_number(route, p, m as u64, n as u64, 4)
+}
+
+/// Compose with dirty buffers of the sizes required.
+pub fn compose(random: &mut Random, route: u64, case: &Case) -> (Answer, Vec<u32>) {
+    let n = case.n as u64;
+    let mut out = random.buffer(case.n);
+    let mut work = random.buffer(refusals::work_places(n, case.f.len()) as usize);
+    let answer = calls::compose(route, case.p, n, &case.f, &case.g, &mut out, &mut work);
+    (answer, out)
+}
+
+/// Reverse with dirty buffers of the sizes required.
+pub fn reverse(random: &mut Random, p: u64, g: &[u32], n: usize) -> (Answer, Vec<u32>) {
+    let mut out = random.buffer(n);
+    let mut work = random.buffer(refusals::work_places(n as u64, g.len()) as usize);
+    let answer = calls::reverse(p, n as u64, g, &mut out, &mut work);
+    (answer, out)
+}

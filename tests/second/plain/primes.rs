@@ -1,0 +1,16 @@
+//! Primality by trial division, and the table of the sixteen largest primes below 2^31.
+
+pub const LARGEST_MODULUS: u64 = 2_147_483_647;
+pub const TABLE_LENGTH: usize = 16;
+
+/// No number from 2 to the square root divides it; apart from 2, the odd ones are tried.
+pub fn is_prime(number: u64) -> bool {
+    let mut odd = (3..).step_by(2).take_while(|d| d * d <= number);
+    number == 2 || number > 2 && !number.is_multiple_of(2) && odd.all(|d| !number.is_multiple_of(d))
+}
+
+/// The sixteen largest primes below 2147483648, largest first.
+pub fn table() -> Vec<u32> {
+    let below = (0..1u32 << 31).rev();
+    below.filter(|&number| is_prime(u64::from(number))).take(TABLE_LENGTH).collect()
+}
