@@ -18,6 +18,8 @@
 --   Reversion                                    the reverse series: unique, from both sides, and the Newton step
 -- The bridge to the definitions
 --   Lists Bounded Bridge Composition Inverse     tables; places below p; lists as series over the residues; the laws of composition and of reversion on lists
+--   Rows PlaneBridge                             lists in rows; these as series in two variables over the residues
+--   Halvings KinoshitaLiLists                    the number of halvings; route 4 on lists
 pub mod Semiring
 pub mod Negation
 pub mod Power
@@ -54,3 +56,7 @@ pub mod Bounded
 pub mod Bridge
 pub mod Composition
 pub mod Inverse
+pub mod Rows
+pub mod PlaneBridge
+pub mod Halvings
+pub mod KinoshitaLiLists

@@ -1,0 +1,217 @@
+-- Route 4 on lists: the levels over the residues modulo p give the composition. Assumes nothing.
+--
+-- f is the outer list, m its length, g the inner list, n the order; P is f's list reversed, a polynomial in y.
+--
+--   graeffe-list p m r q Q     V as a list, from the list of Q in rows of r places
+--   levels-list p f K r q d Q  K levels on lists; at the last one, of rows of one place, P is divided by Q(0, y)
+--   graeffe-listed levels-listed   these lists are those of the algebra over the residues
+--   levels-composed            row 0 of the levels is the composition, from every Q that agrees with 1 - y g below y^m and x^n
+--   kinoshita-li-composed      the same from 1 - y g, with the number of halvings of n
+--   levels-list-composed       the levels on lists give the composition
+use Prim.Native.Nat.{ℕ, zero, suc, _+_, _-_, _<_, _≤_, _^_, min}
+use mathlib.Core.List.{List, [], _∷_, map, reverse, reverseAux}
+use mathlib.Core.Path.{_≡_, refl, sym, ap, fun-ext, _∙_}
+use lib.ListN.{length, length-map, List·getD-map, drop, length-drop}
+use lib.Seq.{getD-drop}
+use native.Mathlib.Decide.{decLt}
+use native.Mathlib.Omega.{arith}
+use Rattle.algebra.specs.Agree.{Agree, agree-refl, agree-sym, agree-equal}
+use Rattle.algebra.specs.Bridge.{series-of, listed, length-listed, coefficient-listed, listed-agree, composed-listed}
+use Rattle.algebra.specs.Cut.{window, Degree, cut, cut-below, cut-beyond, cut-constant}
+use Rattle.algebra.specs.Evaluate.{evaluate, evaluate-map, polynomial}
+use Rattle.algebra.specs.Geometric.{denominator}
+use Rattle.algebra.specs.Graeffe.{graeffe, graeffe-at, graeffe-0}
+use Rattle.algebra.specs.Halvings.{halvings-covers}
+use Rattle.algebra.specs.Homomorphism.{coefficients-at, constants}
+use Rattle.algebra.specs.KinoshitaLi.{levels, levels-evaluate, denominator-degree, cut-graeffe}
+use Rattle.algebra.specs.Lists.{lists-equal}
+use Rattle.algebra.specs.Negation.{Negation}
+use Rattle.algebra.specs.Plane.{Plane, AgreePlane, cut-plane, cut-plane-below, cut-plane-equal}
+use Rattle.algebra.specs.PlaneBridge.{
+  plane-of,
+  listed-plane,
+  listed-plane-agree,
+  listed-plane-row,
+  listed-plane-column,
+  plane-of-plane,
+  plane-of-listed,
+  reduced-evenPart,
+  reduced-opposite,
+  reduced-squared,
+  reduced-denominator,
+  reduced-cutProduct2At,
+  window-cutProduct2-listed,
+  reduced-column,
+  quotient-listed,
+}
+use Rattle.algebra.specs.Residue.{Residue, residue, residue-0, residues, residues-negation, reduction}
+use Rattle.algebra.specs.Semiring.{Semiring}
+use Rattle.algebra.specs.Series.{Series, series, series-negation, constant-0, 𝟙-constant}
+use Rattle.definition.specs.KinoshitaLi as Plain
+use Rattle.definition.specs.KinoshitaLi.{planeAt, plane, cutProduct2At}
+use Rattle.definition.specs.Lists.{coefficient, ceilDiv}
+use Rattle.definition.specs.Substitution.{composed}
+use Rattle.definition.specs.Weight.{degreeBound, halvings}
+
+-- `map` and `reverse` commute; ys is what is reversed already
+map-reverse : {A B : Type 0} (φ : A → B) (xs ys : List A) → map φ (reverseAux xs ys) ≡ reverseAux (map φ xs) (map φ ys)
+map-reverse φ [] ys = refl
+map-reverse φ (x ∷ xs) ys = map-reverse φ xs (x ∷ ys)
+
+unfoldable pub graeffe-list : ℕ → ℕ → ℕ → ℕ → List ℕ → List ℕ
+graeffe-list p m r q Q =
+    plane (ceilDiv r 2) (suc (degreeBound m q)) (Plain.evenPart (cutProduct2At p (planeAt r Q) (Plain.opposite p (planeAt r Q))))
+
+unfoldable pub levels-list : ℕ → List ℕ → ℕ → ℕ → ℕ → ℕ → List ℕ → List ℕ
+levels-list p f zero r q d Q = drop d (Plain.quotient p (length f) (coefficient (reverse f)) (λ j. planeAt r Q j 0))
+levels-list p f (suc K) r q d Q =
+    plane r (length f - d) (Plain.window (d - (d - q)) (cutProduct2At p
+    (Plain.squared (planeAt (ceilDiv r 2)
+    (levels-list p f K (ceilDiv r 2) (degreeBound (length f) q) (d - q) (graeffe-list p (length f) r q Q))))
+    (Plain.opposite p (planeAt r Q))))
+
+module _ {A : Type 0} (R : Semiring A) where
+  -- a cut keeps the constant term 𝟙 in y
+  cut-plane-𝟙 : (w : ℕ) {r : ℕ} (a : Plane A) → 0 < r → a 0 ≡ series R .𝟙 → cut-plane R (suc w) r a 0 ≡ series R .𝟙
+  cut-plane-𝟙 w a b unit =
+      rw (cut-below (series R) (suc w) _ 0 (omega arith), unit, 𝟙-constant R) (cut-constant R b (R .𝟙))
+
+  -- a plane that has no powers of y above q agrees with its cut there
+  cut-plane-degree : {m q r : ℕ} (a : Plane A) → Degree (series R) m q a → AgreePlane m r (cut-plane R (suc q) r a) a
+  cut-plane-degree {m} {q} {r} a h j b = at (decLt j (suc q))
+    where
+      at : Dec (j < suc q) → Agree r (cut-plane R (suc q) r a j) (a j)
+      at (yes c) = cut-plane-below R (suc q) r a j c
+      at (no c) = agree-equal (cut-beyond (series R) (suc q) _ j (omega arith) ∙ sym (h j (omega arith) b))
+
+  -- a cut is its own cut
+  cut-plane-cut : (w r : ℕ) (a : Plane A) → cut-plane R w r (cut-plane R w r a) ≡ cut-plane R w r a
+  cut-plane-cut w r a = cut-plane-equal R (cut-plane-below R w r a)
+
+module _ {p : ℕ} (l : 0 < p) where
+  abbrev R : Semiring (Residue p)
+  R = residues l
+
+  abbrev N : Negation R
+  N = residues-negation l
+
+  polynomial-residues : (xs : List ℕ) → polynomial R (map (residue l) xs) ≡ series-of l xs
+  unfolding coefficient
+  polynomial-residues xs = fun-ext λ k. rw (coefficients-at (reduction l), ← residue-0 l) (List·getD-map (residue l) xs k 0)
+
+  drop-listed : (m d : ℕ) (s : Series (Residue p)) → drop d (listed m s) ≡ listed (m - d) (window d s)
+  unfolding coefficient
+  drop-listed m d s =
+      lists-equal (m - d) (drop d (listed m s)) (listed (m - d) (window d s))
+      (rw (length-drop, length-listed)) (length-listed (m - d) (window d s))
+      (λ k b.
+      getD-drop d (listed m s) k 0
+      ∙ coefficient-listed m s (d + k) (omega arith)
+      ∙ sym (coefficient-listed (m - d) (window d s) k b))
+
+  module _ (f : List ℕ) where
+    abbrev m : ℕ
+    m = length f
+
+    abbrev P : Series (Residue p)
+    P = series-of l (reverse f)
+
+    pub graeffe-listed : (r q : ℕ) (Q : List ℕ)
+        → plane-of l (ceilDiv r 2) (graeffe-list p m r q Q) ≡ cut-graeffe R N P m r q (plane-of l r Q)
+    unfolding graeffe-list cut-graeffe
+    graeffe-listed r q Q =
+        plane-of-plane l (ceilDiv r 2) (suc (degreeBound m q)) _
+        ∙ ap (cut-plane R (suc (degreeBound m q)) (ceilDiv r 2))
+        (rw (reduced-evenPart l, reduced-cutProduct2At l, reduced-opposite l)
+        (sym (fun-ext (graeffe-at R N (plane-of l r Q)))))
+
+    graeffe-unit : (r q : ℕ) (Q : List ℕ) → 0 < r → plane-of l r Q 0 ≡ series R .𝟙
+        → plane-of l (ceilDiv r 2) (graeffe-list p m r q Q) 0 ≡ series R .𝟙
+    unfolding cut-graeffe ceilDiv
+    graeffe-unit r q Q a unit =
+        rw graeffe-listed
+        (cut-plane-𝟙 R (degreeBound m q) (graeffe R N (plane-of l r Q)) (omega arith) (graeffe-0 R N (plane-of l r Q) unit))
+
+    plane-of-levels : (K r q d : ℕ) (Q : Plane (Residue p))
+        → plane-of l r (listed-plane r (m - d) (levels R N P m K r q d Q)) ≡ levels R N P m K r q d Q
+    unfolding levels
+    plane-of-levels zero r q d Q = plane-of-listed l r (m - d) _ ∙ cut-plane-cut R (m - d) r _
+    plane-of-levels (suc K) r q d Q = plane-of-listed l r (m - d) _ ∙ cut-plane-cut R (m - d) r _
+
+    last-listed : (q d : ℕ) (Q : List ℕ) → plane-of l 1 Q 0 ≡ series R .𝟙
+        → levels-list p f 0 1 q d Q ≡ listed-plane 1 (m - d) (levels R N P m 0 1 q d (plane-of l 1 Q))
+    unfolding levels-list levels
+    last-listed q d Q unit =
+        rw (
+          quotient-listed l (coefficient (reverse f)) (λ j. planeAt 1 Q j 0)
+              (rw (reduced-column l (planeAt 1 Q), unit, 𝟙-constant R) (constant-0 R (R .𝟙))) m,
+          listed-plane-column l,
+          drop-listed,
+          reduced-column l (planeAt 1 Q),
+        )
+        (listed-agree λ j b.
+        sym (cut-plane-below R (m - d) 1 _ j b 0 (omega arith) ∙ rw (coefficients-at (constants R), constant-0 R)))
+
+    pub levels-listed : (K r q d : ℕ) (Q : List ℕ) → 0 < r → r ≤ 2 ^ K → plane-of l r Q 0 ≡ series R .𝟙
+        → levels-list p f K r q d Q ≡ listed-plane r (m - d) (levels R N P m K r q d (plane-of l r Q))
+    unfolding levels-list levels ceilDiv
+    levels-listed zero r q d Q a b unit = let e : r ≡ 1 = omega arith in rw e (last-listed q d Q (rw e at unit))
+    levels-listed (suc K) r q d Q a b unit =
+        window-cutProduct2-listed l r (m - d) (d - (d - q)) _ _
+        ∙ rw (
+          reduced-squared l,
+          levels-listed K (ceilDiv r 2) (degreeBound m q) (d - q) (graeffe-list p m r q Q) (omega arith) (omega arith)
+              (graeffe-unit r q Q a unit),
+          plane-of-levels,
+          graeffe-listed,
+          reduced-opposite l,
+        )
+        (listed-plane-agree r (m - d) (λ j c. agree-sym (cut-plane-below R (m - d) r _ j c)))
+
+    module _ (g : List ℕ) where
+      abbrev Q₀ : Plane (Residue p)
+      Q₀ = denominator (series R) (series-negation R N) (series-of l g)
+
+      pub levels-composed : (n K q d : ℕ) (Q : Plane (Residue p)) → m ≡ suc d → 0 < n → n ≤ 2 ^ K
+          → Q 0 ≡ series R .𝟙 → Degree (series R) m q Q → AgreePlane m n Q Q₀
+          → listed n (levels R N P m K n q d Q 0) ≡ composed p n f g
+      levels-composed n K q d Q e a b unit h v =
+          rw (composed-listed l, ← evaluate-map (constants R) (reduction l) f (series-of l g), row)
+          (listed-agree (cut-below R n _))
+        where
+          row : levels R N P m K n q d Q 0 ≡ cut R n (evaluate (constants R) (map (residue l) f) (series-of l g))
+          row =
+              rw (length-map, ← map-reverse (residue l) f [], polynomial-residues) at
+              (levels-evaluate R N (series-of l g) (map (residue l) f) n K q d Q (rw length-map e) a b unit (rw length-map h)
+              (rw length-map v))
+
+      module _ (n : ℕ) (e : 0 < m) (a : 0 < n) where
+        abbrev q₀ : ℕ
+        q₀ = min 1 (m - 1)
+
+        pub kinoshita-li-composed : listed n (levels R N P m (halvings n) n q₀ (m - 1) Q₀ 0) ≡ composed p n f g
+        unfolding denominator
+        kinoshita-li-composed =
+            levels-composed n (halvings n) q₀ (m - 1) Q₀ (omega arith) a (halvings-covers n) refl
+            (denominator-degree R N (series-of l g) m) (λ j b. agree-refl (Q₀ j))
+
+        -- the list of 1 - y g below y^(q + 1) and x^n
+        abbrev Q₁ : List ℕ
+        Q₁ = plane n (suc q₀) (Plain.denominator p g)
+
+        pub levels-list-composed : levels-list p f (halvings n) n q₀ (m - 1) Q₁ ≡ composed p n f g
+        unfolding denominator
+        levels-list-composed =
+            let w : m - (m - 1) ≡ 1 = omega arith in
+            rw (levels-listed (halvings n) n q₀ (m - 1) Q₁ a (halvings-covers n) unit, w, listed-plane-row l)
+            (levels-composed n (halvings n) q₀ (m - 1) (plane-of l n Q₁) (omega arith) a (halvings-covers n) unit
+            (rw first (λ j b c. cut-beyond (series R) (suc q₀) _ j b))
+            (rw first (cut-plane-degree R Q₀ (denominator-degree R N (series-of l g) m))))
+          where
+            first : plane-of l n Q₁ ≡ cut-plane R (suc q₀) n Q₀
+            first =
+                plane-of-plane l n (suc q₀) (Plain.denominator p g)
+                ∙ ap (cut-plane R (suc q₀) n) (reduced-denominator l g)
+
+            unit : plane-of l n Q₁ 0 ≡ series R .𝟙
+            unit = rw first (cut-plane-𝟙 R q₀ Q₀ a refl)
