@@ -5,18 +5,22 @@
 --   agree-refl agree-sym agree-trans   agreement is an equivalence
 --   agree-equal equal-agree   equal series agree; series that agree below every place are equal
 --   agree-weaken      agreement below n gives agreement below m ≤ n
+--   agree-1 agree-suc agreement below 1, and one place further
 --   agree-⊞ agree-⊠ agree-power agree-sum agree-neg   the operations respect agreement
 --   vanish-𝟘          a series vanishes below n if it agrees with 𝟘 there, and the other way round
 --   vanish-agree-⊠    a factor that vanishes below i carries agreement i places further
---   vanish-⊠ vanish-power   products and powers of series that vanish below a place
+--   vanish-⊠ vanish-multiple vanish-power vanish-neg   products, multiples, powers and negatives of series that vanish below a place
+--   agree-⊞-vanish    a summand that vanishes below n may be left out there
+--   agree-difference  the difference of series that agree below n vanishes there
 use Prim.Native.Nat.{ℕ, zero, suc, _+_, _*_, _<_, _≤_}
 use mathlib.Core.Logic.{_↔_}
 use mathlib.Core.Path.{_≡_, refl, sym, ap, fun-ext, _∙_}
+use native.Mathlib.Decide.{decLt}
 use native.Mathlib.Nat.{add-comm, lt-suc-self, suc-mul, zero-mul}
 use native.Mathlib.Omega.{arith}
-use Rattle.algebra.specs.Negation.{Negation}
+use Rattle.algebra.specs.Negation.{Negation, neg-𝟘, ⊕-neg}
 use Rattle.algebra.specs.Power.{power, power-0, power-suc}
-use Rattle.algebra.specs.Semiring.{Semiring, 𝟘-⊗, ⊗-𝟘}
+use Rattle.algebra.specs.Semiring.{Semiring, ⊕-𝟘, 𝟘-⊗, ⊗-𝟘}
 use Rattle.algebra.specs.Series.{Series, series, series-negation}
 use Rattle.algebra.specs.Series.{𝟘-at, ⊞-at, ⊠-0, ⊠-suc, neg-at}
 use Rattle.algebra.specs.Sum.{sum, sum-0, sum-suc}
@@ -42,6 +46,13 @@ module _ {A : Type 0} where
 
   pub agree-weaken : {m n : ℕ} {a b : Series A} → m ≤ n → Agree n a b → Agree m a b
   agree-weaken l h k b = h k (omega arith)
+
+  pub agree-suc : {n : ℕ} {a b : Series A} → Agree n a b → a n ≡ b n → Agree (suc n) a b
+  agree-suc {n} h e k l =
+      elim (decLt k n) [ yes b ↦ h k b | no b ↦ (let i : k ≡ n = omega arith in rw i e) ]
+
+  pub agree-1 : (a b : Series A) → a 0 ≡ b 0 → Agree 1 a b
+  agree-1 a b = agree-suc (λ k l. absurd (omega arith))
 
 module _ {A : Type 0} (R : Semiring A) where
   infixl 50 _⊞_
@@ -84,6 +95,17 @@ module _ {A : Type 0} (R : Semiring A) where
       → Agree n (series-negation R N .neg a) (series-negation R N .neg b)
   agree-neg N h k l = rw (neg-at R N, neg-at R N, h k l)
 
+  pub vanish-neg : (N : Negation R) {n : ℕ} {a : Series A} → Vanish n a
+      → Vanish n (series-negation R N .neg a)
+  vanish-neg N v k l = rw (neg-at R N, v k l) (neg-𝟘 R N)
+
+  pub agree-⊞-vanish : {n : ℕ} (a : Series A) {b : Series A} → Vanish n b → Agree n (a ⊞ b) a
+  agree-⊞-vanish a v k l = rw (⊞-at, v k l, ⊕-𝟘)
+
+  pub agree-difference : (N : Negation R) {n : ℕ} {a b : Series A} → Agree n a b
+      → Vanish n (a ⊞ series-negation R N .neg b)
+  agree-difference N {b} h k l = rw (⊞-at, neg-at R N, h k l) (⊕-neg R N (b k))
+
   pub vanish-agree-⊠ : (i : ℕ) {n : ℕ} {u a b : Series A} → Vanish i u → Agree n a b
       → Agree (i + n) (u ⊠ a) (u ⊠ b)
   vanish-agree-⊠ zero {u} v h k l = agree-⊠ (agree-refl u) h k (omega arith)
@@ -101,6 +123,9 @@ module _ {A : Type 0} (R : Semiring A) where
   pub vanish-⊠ : (i j : ℕ) {a b : Series A} → Vanish i a → Vanish j b → Vanish (i + j) (a ⊠ b)
   vanish-⊠ i j {a} v w =
       vanish-𝟘 .1 (rw (⊗-𝟘 (series R) a) at (vanish-agree-⊠ i v (vanish-𝟘 .0 w)))
+
+  pub vanish-multiple : {n : ℕ} {a : Series A} (b : Series A) → Vanish n a → Vanish n (a ⊠ b)
+  vanish-multiple {n} b v k l = vanish-⊠ n 0 v (λ i m. absurd (omega arith)) k (omega arith)
 
   pub vanish-power : (i j : ℕ) {a : Series A} → Vanish i a → Vanish (j * i) (power (series R) a j)
   vanish-power i zero v = rw zero-mul (λ k l. absurd (omega arith))

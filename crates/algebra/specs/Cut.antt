@@ -6,17 +6,20 @@
 --   ⊠-degree              the degree of a product
 --   cut R n a             a below n, 𝟘 from n on
 --   cut-below cut-beyond  these two equations
+--   cut-unique            a series that agrees with a below n and is 𝟘 from n on is the cut of a
 --   cut-equal             series that agree below n have the same cut
 --   cut-constant          a constant is its own cut
+--   coefficients-cut      a homomorphism of the coefficients commutes with cuts
 use Prim.Native.Nat.{ℕ, zero, suc, _+_, _-_, _<_, _≤_}
 use borrow.Author.Tests.{lt-ltb, le-ltb}
 use lib.Dec.{ltb}
-use mathlib.Core.Bool.{cond}
-use mathlib.Core.Path.{_≡_, sym, ap, fun-ext, _∙_}
+use mathlib.Core.Bool.{Bool, true, false, cond}
+use mathlib.Core.Path.{_≡_, refl, sym, ap, fun-ext, _∙_}
 use native.Mathlib.Decide.{decLe, decLt}
 use native.Mathlib.Nat.{suc-add, zero-add}
 use native.Mathlib.Omega.{arith}
-use Rattle.algebra.specs.Agree.{Agree}
+use Rattle.algebra.specs.Agree.{Agree, agree-refl, agree-trans}
+use Rattle.algebra.specs.Homomorphism.{Homomorphism, coefficients, coefficients-at}
 use Rattle.algebra.specs.Semiring.{Semiring, ⊗-𝟘, 𝟘-⊗, 𝟘-⊕}
 use Rattle.algebra.specs.Series.{Series, series, constant, constant-suc, tail, ⊠-at, ⊠-suc}
 use Rattle.algebra.specs.Sum.{sum-𝟘}
@@ -64,17 +67,28 @@ module _ {A : Type 0} (R : Semiring A) where
   unfolding cut
   cut-beyond n a k l = rw le-ltb
 
-  pub cut-equal : {n : ℕ} {a b : Series A} → Agree n a b → cut n a ≡ cut n b
-  cut-equal {n} {a} {b} h = fun-ext λ k. at k (decLt k n)
+  pub cut-unique : {n : ℕ} {s a : Series A} → Agree n s a → ((k : ℕ) → n ≤ k → s k ≡ 𝟘) → s ≡ cut n a
+  cut-unique {n} {s} {a} h z = fun-ext λ k. at k (decLt k n)
     where
-      at : (k : ℕ) → Dec (k < n) → cut n a k ≡ cut n b k
-      at k (yes l) = rw (cut-below n a k l, cut-below n b k l) (h k l)
-      at k (no l) = rw (cut-beyond n a k (omega arith), cut-beyond n b k (omega arith))
+      at : (k : ℕ) → Dec (k < n) → s k ≡ cut n a k
+      at k (yes b) = h k b ∙ sym (cut-below n a k b)
+      at k (no b) = z k (omega arith) ∙ sym (cut-beyond n a k (omega arith))
+
+  pub cut-equal : {n : ℕ} {a b : Series A} → Agree n a b → cut n a ≡ cut n b
+  cut-equal {n} {a} h = cut-unique (agree-trans (cut-below n a) h) (cut-beyond n a)
 
   pub cut-constant : {n : ℕ} → 0 < n → (c : A) → cut n (constant R c) ≡ constant R c
-  cut-constant {n} l c = fun-ext λ k. at k (decLt k n)
+  cut-constant {n} l c = sym (cut-unique (agree-refl _) beyond)
     where
-      at : (k : ℕ) → Dec (k < n) → cut n (constant R c) k ≡ constant R c k
-      at k (yes b) = cut-below n (constant R c) k b
-      at zero (no b) = absurd (b l)
-      at (suc k) (no b) = cut-beyond n (constant R c) (suc k) (omega arith) ∙ sym (constant-suc R c k)
+      beyond : (k : ℕ) → n ≤ k → constant R c k ≡ 𝟘
+      beyond zero b = absurd (omega arith)
+      beyond (suc k) b = constant-suc R c k
+
+module _ {A B : Type 0} {R : Semiring A} {S : Semiring B} (φ : Homomorphism R S) where
+  pub coefficients-cut : (n : ℕ) (a : Series A) → coefficients φ (cut R n a) ≡ cut S n (coefficients φ a)
+  unfolding cut
+  coefficients-cut n a = fun-ext λ k. rw (coefficients-at φ, coefficients-at φ) (at (ltb k n) (a k))
+    where
+      at : (b : Bool) (x : A) → φ .map (cond b x (R .𝟘)) ≡ cond b (φ .map x) (S .𝟘)
+      at true x = refl
+      at false x = φ .map-𝟘

@@ -15,15 +15,13 @@
 --   evaluate-derivative   Horner's rule for its value
 --   evaluate-expand       f(s + δ) is f(s) + f'(s) δ plus a multiple of δ²
 --   derivative-evaluate   the chain rule for a polynomial at any series
---   agree-⊞-vanish vanish-multiple
---                         a summand that vanishes below n, and multiples of such a series
 use Prim.Native.Nat.{ℕ, zero, suc, _+_}
 use lib.ListN.{getD}
 use mathlib.Core.List.{List, [], _∷_}
 use mathlib.Core.Path.{_≡_, refl, sym, ap, fun-ext, _∙_}
 use native.Mathlib.Nat.{add-suc, add-zero, suc-add, zero-add}
 use native.Mathlib.Omega.{arith}
-use Rattle.algebra.specs.Agree.{Agree, Vanish, agree-equal, agree-sym, vanish-⊠}
+use Rattle.algebra.specs.Agree.{Agree, Vanish, agree-equal, agree-sym, agree-⊞-vanish, vanish-⊠, vanish-multiple}
 use Rattle.algebra.specs.Evaluate.{evaluate, evaluate-[], evaluate-∷, evaluate-⊕}
 use Rattle.algebra.specs.Evaluate.{polynomial}
 use Rattle.algebra.specs.Homomorphism.{Homomorphism, composite, constant-𝟘, constants}
@@ -111,12 +109,6 @@ module _ {A : Type 0} (R : Semiring A) where
       ∙ rw (derivative-decompose a) (simp ring))
       a
 
-  pub agree-⊞-vanish : {n : ℕ} (a : Series A) {b : Series A} → Vanish R n b → Agree n (a ⊞ b) a
-  agree-⊞-vanish a v k l = rw (⊞-at, v k l, ⊕-𝟘)
-
-  pub vanish-multiple : {n : ℕ} {a : Series A} (b : Series A) → Vanish R n a → Vanish R n (a ⊠ b)
-  vanish-multiple {n} b v k l = vanish-⊠ R n 0 v (λ i m. absurd (omega arith)) k (omega arith)
-
   module _ (u : Series A) (h : u 0 ≡ 𝟘) where
     pub derivative-substitute : (a : Series A)
         → derivative (substitute R a u) ≡ substitute R (derivative a) u ⊠ derivative u
@@ -155,7 +147,7 @@ module _ {A : Type 0} (R : Semiring A) where
         (λ a. substitute R a u ⊞ substitute R (derivative a) u ⊠ δ)
         (suc n + suc n)
         (λ a. agree-equal (substitute-horner R (u ⊞ δ) e a))
-        (λ a. agree-sym (rw (expand-horner δ a) (agree-⊞-vanish _ (vanish-multiple _ square))))
+        (λ a. agree-sym (rw (expand-horner δ a) (agree-⊞-vanish R _ (vanish-multiple R _ square))))
 
   -- (n + 1) x_0, (n + 2) x_1, ..
   multiples : ℕ → List A → List A

@@ -20,50 +20,22 @@ use Prim.Native.Nat.{ℕ, zero, suc, _+_, _-_, _<_, _≤_, _^_, min}
 use lib.ListN.{length}
 use mathlib.Core.List.{List, [], _∷_, reverse}
 use mathlib.Core.Path.{_≡_, refl, sym, ap, ap₂, fun-ext, _∙_}
-use native.Mathlib.Decide.{decLt}
 use native.Mathlib.Nat.{lt-suc-self}
 use native.Mathlib.Omega.{arith}
 use Rattle.definition.specs.Lists.{ceilDiv}
 use Rattle.definition.specs.Weight.{degreeBound}
-use Rattle.algebra.specs.Agree.{Agree, agree-refl, agree-trans, agree-equal, agree-weaken}
+use Rattle.algebra.specs.Agree.{Agree, agree-refl, agree-trans, agree-weaken}
 use Rattle.algebra.specs.Alternate.{0<2}
-use Rattle.algebra.specs.Cut.{
-  window,
-  ⊠-window,
-  Degree,
-  cut,
-  cut-below,
-  cut-beyond,
-  cut-constant,
-  cut-equal,
-}
+use Rattle.algebra.specs.Cut.{window, ⊠-window, Degree, cut, cut-below, cut-beyond, cut-equal}
 use Rattle.algebra.specs.Evaluate.{evaluate, polynomial}
 use Rattle.algebra.specs.Geometric.{denominator, quotient-evaluate}
-use Rattle.algebra.specs.Graeffe.{
-  squared,
-  squaring,
-  squared-at,
-  opposite,
-  opposite-degree,
-  graeffe,
-  graeffe-0,
-  graeffe-degree,
-  squared-graeffe,
-}
+use Rattle.algebra.specs.Graeffe.{squared, squaring, squared-at, opposite, opposite-degree, graeffe, graeffe-0, graeffe-degree, squared-graeffe}
 use Rattle.algebra.specs.Homomorphism.{coefficients, coefficients-at, constants, constant-term}
 use Rattle.algebra.specs.Negation.{Negation}
-use Rattle.algebra.specs.Plane.{
-  Plane,
-  AgreePlane,
-  agree-plane-⊠,
-  agree-plane-quotient,
-  cut-plane,
-  cut-plane-below,
-  cut-plane-equal,
-}
+use Rattle.algebra.specs.Plane.{Plane, AgreePlane, agree-plane-⊠, agree-plane-quotient, cut-plane, cut-plane-below, cut-plane-degree, cut-plane-equal, cut-plane-𝟙}
 use Rattle.algebra.specs.Quotient.{quotient, quotient-unique, quotient-⊠, quotient-map}
 use Rattle.algebra.specs.Semiring.{Semiring, ⊗-assoc, ⊗-comm}
-use Rattle.algebra.specs.Series.{Series, series, series-negation, constant-0, 𝟙-constant}
+use Rattle.algebra.specs.Series.{Series, series, series-negation, constant-0}
 use Rattle.algebra.specs.Spread.{spread-agree, spread-constant}
 
 module _ {A : Type 0} (R : Semiring A) (N : Negation R) (P : Series A) where
@@ -93,11 +65,11 @@ module _ {A : Type 0} (R : Semiring A) (N : Negation R) (P : Series A) where
       )
       squared-numerator))
 
-  pub fraction-at-0 : (Q : Plane A) → Q 0 ≡ 𝟙 → (j : ℕ) → fraction Q j 0 ≡ quotient R N P (λ i. Q i 0) j
+  pub fraction-at-0 : (Q : Plane A) (j : ℕ) → fraction Q j 0 ≡ quotient R N P (λ i. Q i 0) j
   unfolding fraction
-  fraction-at-0 Q unit j =
+  fraction-at-0 Q j =
       sym (coefficients-at (constant-term R) (fraction Q) j)
-      ∙ ap (λ s. s j) (quotient-map (series-negation R N) N (constant-term R) numerator Q unit)
+      ∙ ap (λ s. s j) (quotient-map (series-negation R N) N (constant-term R) numerator Q)
       ∙ ap₂ (λ s t. quotient R N s t j)
       (fun-ext λ i. rw (coefficients-at (constant-term R), coefficients-at (constants R), constant-0 R))
       (fun-ext (coefficients-at (constant-term R) Q))
@@ -138,16 +110,12 @@ module _ {A : Type 0} (R : Semiring A) (N : Negation R) (P : Series A) where
       cut-graeffe-0 : 0 < r → Q 0 ≡ 𝟙 → cut-graeffe r q Q 0 ≡ 𝟙
       unfolding cut-graeffe ceilDiv
       cut-graeffe-0 l unit =
-          rw (cut-below (series R) (suc (degreeBound m q)) _ 0 (omega arith), graeffe-0 R N Q unit, 𝟙-constant R)
-          (cut-constant R (omega arith) (R .𝟙))
+          cut-plane-𝟙 R (degreeBound m q) (graeffe R N Q) (omega arith) (graeffe-0 R N Q unit)
 
       cut-graeffe-agree : Degree (series R) m q Q → AgreePlane m (ceilDiv r 2) (cut-graeffe r q Q) (graeffe R N Q)
       unfolding cut-graeffe degreeBound
-      cut-graeffe-agree h j l = at (decLt j (suc (degreeBound m q)))
-        where
-          at : Dec (j < suc (degreeBound m q)) → Agree (ceilDiv r 2) (cut-graeffe r q Q j) (graeffe R N Q j)
-          at (yes b) = cut-plane-below R (suc (degreeBound m q)) (ceilDiv r 2) (graeffe R N Q) j b
-          at (no b) = agree-equal (cut-graeffe-degree j (omega arith) l ∙ sym (graeffe-degree R N h j (omega arith) l))
+      cut-graeffe-agree h =
+          cut-plane-degree R (graeffe R N Q) (λ j l b. graeffe-degree R N h j (omega arith) b)
 
     unfoldable pub levels : ℕ → ℕ → ℕ → ℕ → Plane A → Plane A
     levels zero r q d Q = cut-plane R (m - d) r (window d (coefficients (constants R) (quotient R N P (λ j. Q j 0))))
@@ -155,16 +123,16 @@ module _ {A : Type 0} (R : Semiring A) (N : Negation R) (P : Series A) where
         cut-plane R (m - d) r (window (d - (d - q))
         (squared R (levels K (ceilDiv r 2) (degreeBound m q) (d - q) (cut-graeffe r q Q)) ⊠ opposite R N Q))
 
-    order-one : (Q : Plane A) → Q 0 ≡ 𝟙 → (j : ℕ)
+    order-one : (Q : Plane A) (j : ℕ)
         → Agree 1 (coefficients (constants R) (quotient R N P (λ i. Q i 0)) j) (fraction Q j)
-    order-one Q unit j zero l = rw (coefficients-at (constants R), constant-0 R) (sym (fraction-at-0 Q unit j))
-    order-one Q unit j (suc k) l = absurd (omega arith)
+    order-one Q j zero l = rw (coefficients-at (constants R), constant-0 R) (sym (fraction-at-0 Q j))
+    order-one Q j (suc k) l = absurd (omega arith)
 
     pub levels-fraction : (K r q d : ℕ) (Q : Plane A) → 0 < r → r ≤ 2 ^ K → Q 0 ≡ 𝟙 → Degree (series R) m q Q
         → levels K r q d Q ≡ cut-plane R (m - d) r (window d (fraction Q))
     unfolding levels ceilDiv
     levels-fraction zero r q d Q a b unit h =
-        cut-plane-equal R (λ j l. agree-weaken b (order-one Q unit (d + j)))
+        cut-plane-equal R (λ j l. agree-weaken b (order-one Q (d + j)))
     levels-fraction (suc K) r q d Q a b unit h =
         rw (levels-fraction K (ceilDiv r 2) (degreeBound m q) (d - q) (cut-graeffe r q Q) (omega arith) (omega arith)
         (cut-graeffe-0 r q Q a unit) (cut-graeffe-degree r q Q))

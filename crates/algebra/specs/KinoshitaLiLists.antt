@@ -13,40 +13,23 @@ use mathlib.Core.List.{List, [], _∷_, map, reverse, reverseAux}
 use mathlib.Core.Path.{_≡_, refl, sym, ap, fun-ext, _∙_}
 use lib.ListN.{length, length-map, List·getD-map, drop, length-drop}
 use lib.Seq.{getD-drop}
-use native.Mathlib.Decide.{decLt}
 use native.Mathlib.Omega.{arith}
-use Rattle.algebra.specs.Agree.{Agree, agree-refl, agree-sym, agree-equal}
+use Rattle.algebra.specs.Agree.{agree-refl, agree-sym}
 use Rattle.algebra.specs.Bridge.{series-of, listed, length-listed, coefficient-listed, listed-agree, composed-listed}
-use Rattle.algebra.specs.Cut.{window, Degree, cut, cut-below, cut-beyond, cut-constant}
+use Rattle.algebra.specs.Cut.{window, Degree, cut, cut-below, cut-beyond}
 use Rattle.algebra.specs.Evaluate.{evaluate, evaluate-map, polynomial}
 use Rattle.algebra.specs.Geometric.{denominator}
-use Rattle.algebra.specs.Graeffe.{graeffe, graeffe-at, graeffe-0}
+use Rattle.algebra.specs.Graeffe.{graeffe-at}
 use Rattle.algebra.specs.Halvings.{halvings-covers}
 use Rattle.algebra.specs.Homomorphism.{coefficients-at, constants}
 use Rattle.algebra.specs.KinoshitaLi.{levels, levels-evaluate, denominator-degree, cut-graeffe}
 use Rattle.algebra.specs.Lists.{lists-equal}
 use Rattle.algebra.specs.Negation.{Negation}
-use Rattle.algebra.specs.Plane.{Plane, AgreePlane, cut-plane, cut-plane-below, cut-plane-equal}
-use Rattle.algebra.specs.PlaneBridge.{
-  plane-of,
-  listed-plane,
-  listed-plane-agree,
-  listed-plane-row,
-  listed-plane-column,
-  plane-of-plane,
-  plane-of-listed,
-  reduced-evenPart,
-  reduced-opposite,
-  reduced-squared,
-  reduced-denominator,
-  reduced-cutProduct2At,
-  window-cutProduct2-listed,
-  reduced-column,
-  quotient-listed,
-}
+use Rattle.algebra.specs.Plane.{Plane, AgreePlane, cut-plane, cut-plane-below, cut-plane-cut, cut-plane-𝟙, cut-plane-degree}
+use Rattle.algebra.specs.PlaneBridge.{plane-of, listed-plane, listed-plane-agree, listed-plane-row, listed-plane-column, plane-of-plane, plane-of-listed, reduced-evenPart, reduced-opposite, reduced-squared, reduced-denominator, reduced-cutProduct2At, window-cutProduct2-listed, reduced-column, quotient-listed}
 use Rattle.algebra.specs.Residue.{Residue, residue, residue-0, residues, residues-negation, reduction}
 use Rattle.algebra.specs.Semiring.{Semiring}
-use Rattle.algebra.specs.Series.{Series, series, series-negation, constant-0, 𝟙-constant}
+use Rattle.algebra.specs.Series.{Series, series, series-negation, constant-0}
 use Rattle.definition.specs.KinoshitaLi as Plain
 use Rattle.definition.specs.KinoshitaLi.{planeAt, plane, cutProduct2At}
 use Rattle.definition.specs.Lists.{coefficient, ceilDiv}
@@ -69,24 +52,6 @@ levels-list p f (suc K) r q d Q =
     (Plain.squared (planeAt (ceilDiv r 2)
     (levels-list p f K (ceilDiv r 2) (degreeBound (length f) q) (d - q) (graeffe-list p (length f) r q Q))))
     (Plain.opposite p (planeAt r Q))))
-
-module _ {A : Type 0} (R : Semiring A) where
-  -- a cut keeps the constant term 𝟙 in y
-  cut-plane-𝟙 : (w : ℕ) {r : ℕ} (a : Plane A) → 0 < r → a 0 ≡ series R .𝟙 → cut-plane R (suc w) r a 0 ≡ series R .𝟙
-  cut-plane-𝟙 w a b unit =
-      rw (cut-below (series R) (suc w) _ 0 (omega arith), unit, 𝟙-constant R) (cut-constant R b (R .𝟙))
-
-  -- a plane that has no powers of y above q agrees with its cut there
-  cut-plane-degree : {m q r : ℕ} (a : Plane A) → Degree (series R) m q a → AgreePlane m r (cut-plane R (suc q) r a) a
-  cut-plane-degree {m} {q} {r} a h j b = at (decLt j (suc q))
-    where
-      at : Dec (j < suc q) → Agree r (cut-plane R (suc q) r a j) (a j)
-      at (yes c) = cut-plane-below R (suc q) r a j c
-      at (no c) = agree-equal (cut-beyond (series R) (suc q) _ j (omega arith) ∙ sym (h j (omega arith) b))
-
-  -- a cut is its own cut
-  cut-plane-cut : (w r : ℕ) (a : Plane A) → cut-plane R w r (cut-plane R w r a) ≡ cut-plane R w r a
-  cut-plane-cut w r a = cut-plane-equal R (cut-plane-below R w r a)
 
 module _ {p : ℕ} (l : 0 < p) where
   abbrev R : Semiring (Residue p)
@@ -125,26 +90,18 @@ module _ {p : ℕ} (l : 0 < p) where
         (rw (reduced-evenPart l, reduced-cutProduct2At l, reduced-opposite l)
         (sym (fun-ext (graeffe-at R N (plane-of l r Q)))))
 
-    graeffe-unit : (r q : ℕ) (Q : List ℕ) → 0 < r → plane-of l r Q 0 ≡ series R .𝟙
-        → plane-of l (ceilDiv r 2) (graeffe-list p m r q Q) 0 ≡ series R .𝟙
-    unfolding cut-graeffe ceilDiv
-    graeffe-unit r q Q a unit =
-        rw graeffe-listed
-        (cut-plane-𝟙 R (degreeBound m q) (graeffe R N (plane-of l r Q)) (omega arith) (graeffe-0 R N (plane-of l r Q) unit))
-
     plane-of-levels : (K r q d : ℕ) (Q : Plane (Residue p))
         → plane-of l r (listed-plane r (m - d) (levels R N P m K r q d Q)) ≡ levels R N P m K r q d Q
     unfolding levels
     plane-of-levels zero r q d Q = plane-of-listed l r (m - d) _ ∙ cut-plane-cut R (m - d) r _
     plane-of-levels (suc K) r q d Q = plane-of-listed l r (m - d) _ ∙ cut-plane-cut R (m - d) r _
 
-    last-listed : (q d : ℕ) (Q : List ℕ) → plane-of l 1 Q 0 ≡ series R .𝟙
+    last-listed : (q d : ℕ) (Q : List ℕ)
         → levels-list p f 0 1 q d Q ≡ listed-plane 1 (m - d) (levels R N P m 0 1 q d (plane-of l 1 Q))
     unfolding levels-list levels
-    last-listed q d Q unit =
+    last-listed q d Q =
         rw (
-          quotient-listed l (coefficient (reverse f)) (λ j. planeAt 1 Q j 0)
-              (rw (reduced-column l (planeAt 1 Q), unit, 𝟙-constant R) (constant-0 R (R .𝟙))) m,
+          quotient-listed l (coefficient (reverse f)) (λ j. planeAt 1 Q j 0) m,
           listed-plane-column l,
           drop-listed,
           reduced-column l (planeAt 1 Q),
@@ -152,16 +109,15 @@ module _ {p : ℕ} (l : 0 < p) where
         (listed-agree λ j b.
         sym (cut-plane-below R (m - d) 1 _ j b 0 (omega arith) ∙ rw (coefficients-at (constants R), constant-0 R)))
 
-    pub levels-listed : (K r q d : ℕ) (Q : List ℕ) → 0 < r → r ≤ 2 ^ K → plane-of l r Q 0 ≡ series R .𝟙
+    pub levels-listed : (K r q d : ℕ) (Q : List ℕ) → 0 < r → r ≤ 2 ^ K
         → levels-list p f K r q d Q ≡ listed-plane r (m - d) (levels R N P m K r q d (plane-of l r Q))
     unfolding levels-list levels ceilDiv
-    levels-listed zero r q d Q a b unit = let e : r ≡ 1 = omega arith in rw e (last-listed q d Q (rw e at unit))
-    levels-listed (suc K) r q d Q a b unit =
+    levels-listed zero r q d Q a b = let e : r ≡ 1 = omega arith in rw e (last-listed q d Q)
+    levels-listed (suc K) r q d Q a b =
         window-cutProduct2-listed l r (m - d) (d - (d - q)) _ _
         ∙ rw (
           reduced-squared l,
-          levels-listed K (ceilDiv r 2) (degreeBound m q) (d - q) (graeffe-list p m r q Q) (omega arith) (omega arith)
-              (graeffe-unit r q Q a unit),
+          levels-listed K (ceilDiv r 2) (degreeBound m q) (d - q) (graeffe-list p m r q Q) (omega arith) (omega arith),
           plane-of-levels,
           graeffe-listed,
           reduced-opposite l,
@@ -203,7 +159,7 @@ module _ {p : ℕ} (l : 0 < p) where
         unfolding denominator
         levels-list-composed =
             let w : m - (m - 1) ≡ 1 = omega arith in
-            rw (levels-listed (halvings n) n q₀ (m - 1) Q₁ a (halvings-covers n) unit, w, listed-plane-row l)
+            rw (levels-listed (halvings n) n q₀ (m - 1) Q₁ a (halvings-covers n), w, listed-plane-row l)
             (levels-composed n (halvings n) q₀ (m - 1) (plane-of l n Q₁) (omega arith) a (halvings-covers n) unit
             (rw first (λ j b c. cut-beyond (series R) (suc q₀) _ j b))
             (rw first (cut-plane-degree R Q₀ (denominator-degree R N (series-of l g) m))))

@@ -1,50 +1,30 @@
 -- The parts of a polynomial by powers modulo p: f(s) is the sum of s^j f_j(s^p) over j < p. Route 3 is this law. Assumes nothing.
 --
---   sum-blocks          a sum of c p terms, taken by remainders modulo p
---   sum-beyond          terms that are 𝟘 from q on may be left out
 --   evaluate-coefficients   the value of a list of natural numbers as the sum of its coefficients times powers
 --   partCount-below     i is below the count of part j exactly when j + p i is below the length
 --   coefficient-part    coefficient i of part j is coefficient j + p i
 --   evaluate-parts      f(s) is the sum of s^j f_j(s^p) over j < q, for q from min(p, m) to p, where m is the length of f
 --   bernstein           where g(x)^p is g(x^p): f(g) is the sum of g^j h_j(x^p) over j < q, with h_j = f_j(g)
 --   bernstein-agree     below x^n it suffices to know each h_j below ⌈n/p⌉
-use Prim.Native.Nat.{ℕ, zero, suc, _+_, _*_, _<_, _≤_, min}
+use Prim.Native.Nat.{ℕ, _+_, _*_, _<_, _≤_, min}
 use mathlib.Core.Logic.{_↔_}
 use mathlib.Core.List.{List, []}
 use mathlib.Core.Path.{_≡_, sym, ap, _∙_}
 use lib.ListN.{length}
 use native.Mathlib.Decide.{decLt}
-use native.Mathlib.Nat.{add-comm, le-dest, mul-comm, suc-mul, zero-mul}
+use native.Mathlib.Nat.{mul-comm}
 use native.Mathlib.Omega.{arith, by-contra}
 use Rattle.algebra.specs.Agree.{Agree, agree-refl, agree-sum, agree-⊠}
 use Rattle.algebra.specs.Evaluate.{evaluate, evaluate-[], evaluate-cong, evaluate-sum, map-evaluate}
 use Rattle.algebra.specs.Homomorphism.{Homomorphism, composite, constants}
-use Rattle.algebra.specs.Lists.{
-  ceilDiv-count,
-  ceilDiv-covers,
-  coefficient-beyond,
-  coefficient-tabulate,
-  length-tabulate,
-  tabulate-beyond,
-}
+use Rattle.algebra.specs.Lists.{ceilDiv-count, ceilDiv-covers, coefficient-beyond, coefficient-tabulate, length-tabulate, tabulate-beyond}
 use Rattle.algebra.specs.Power.{power, power-+, power-*}
-use Rattle.algebra.specs.Semiring.{Semiring, naturals, ⊕-𝟘, ⊗-𝟘, ⊗-left-comm}
+use Rattle.algebra.specs.Semiring.{Semiring, naturals, ⊗-𝟘, ⊗-left-comm}
 use Rattle.algebra.specs.Series.{Series, series}
 use Rattle.algebra.specs.Spread.{spread, spreading, spread-agree, spread-constant}
-use Rattle.algebra.specs.Sum.{sum, sum-0, sum-suc, sum-+, sum-⊕, sum-𝟘, sum-cong, ⊗-sum}
+use Rattle.algebra.specs.Sum.{sum, sum-cong, sum-beyond, sum-blocks, ⊗-sum}
 use Rattle.definition.specs.Bernstein.{part, partAt, partCount}
 use Rattle.definition.specs.Lists.{ceilDiv, coefficient}
-
-pub sum-blocks : {A : Type 0} (R : Semiring A) (c p : ℕ) (f : ℕ → A)
-    → sum R (c * p) f ≡ sum R p (λ j. sum R c (λ i. f (j + p * i)))
-sum-blocks R zero p f = rw (zero-mul, sum-0 R) (sym (sum-𝟘 R p _ (λ j l. sum-0 R _)))
-sum-blocks R (suc c) p f = rw (suc-mul, sum-+ R, sum-blocks R c p f) (simp (sum-suc R, sum-⊕ R, add-comm, mul-comm))
-
-pub sum-beyond : {A : Type 0} (R : Semiring A) (q n : ℕ) (f : ℕ → A) → q ≤ n
-    → ((i : ℕ) → q ≤ i → i < n → f i ≡ R .𝟘) → sum R n f ≡ sum R q f
-sum-beyond R q n f u h =
-    let (r, e) = le-dest u in
-    rw (← e, sum-+ R, sum-𝟘 R r (λ i. f (q + i)) (λ i v. h (q + i) (omega arith) (omega arith)), ⊕-𝟘 R)
 
 pub evaluate-coefficients : {B : Type 0} {S : Semiring B} (φ : Homomorphism naturals S) (f : List ℕ) (s : B) (n : ℕ)
     → length f ≤ n → evaluate φ f s ≡ sum S n (λ i. S ._⊗_ (φ .map (coefficient f i)) (power S s i))

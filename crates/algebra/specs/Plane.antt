@@ -8,15 +8,19 @@
 --   cut-plane R w r a     a below y^w and x^r, 𝟘 elsewhere
 --   cut-plane-below       it agrees with a there
 --   cut-plane-equal       planes that agree there have the same cut
+--   cut-plane-cut         a cut is its own cut
+--   cut-plane-𝟙           a cut keeps the constant term 𝟙 in y
+--   cut-plane-degree      a plane that has no powers of y above q agrees with its cut there
 use Prim.Native.Nat.{ℕ, suc, _-_, _<_}
-use mathlib.Core.Path.{_≡_}
+use mathlib.Core.Path.{_≡_, sym, _∙_}
+use native.Mathlib.Decide.{decLt}
 use native.Mathlib.Omega.{arith}
-use Rattle.algebra.specs.Agree.{Agree, agree-sum, agree-⊞, agree-⊠, agree-neg}
-use Rattle.algebra.specs.Cut.{cut, cut-below, cut-equal}
+use Rattle.algebra.specs.Agree.{Agree, agree-equal, agree-sum, agree-⊞, agree-⊠, agree-neg}
+use Rattle.algebra.specs.Cut.{Degree, cut, cut-below, cut-beyond, cut-constant, cut-equal}
 use Rattle.algebra.specs.Negation.{Negation}
 use Rattle.algebra.specs.Quotient.{quotient, quotient-respects}
 use Rattle.algebra.specs.Semiring.{Semiring}
-use Rattle.algebra.specs.Series.{Series, series, series-negation, ⊠-at}
+use Rattle.algebra.specs.Series.{Series, series, series-negation, ⊠-at, 𝟙-constant}
 
 abbrev pub Plane : Type 0 → Type 0
 Plane A = Series (Series A)
@@ -25,6 +29,7 @@ abbrev pub AgreePlane : {A : Type 0} → ℕ → ℕ → Plane A → Plane A →
 AgreePlane m r a b = (j : ℕ) → j < m → Agree r (a j) (b j)
 
 module _ {A : Type 0} (R : Semiring A) where
+  open Semiring (series R) using (𝟙)
   open Semiring (series (series R)) using (_⊗_ as _⊠_)
 
   infixl 60 _⊠_
@@ -48,3 +53,17 @@ module _ {A : Type 0} (R : Semiring A) where
 
   pub cut-plane-equal : {w r : ℕ} {a b : Plane A} → AgreePlane w r a b → cut-plane w r a ≡ cut-plane w r b
   cut-plane-equal h = cut-equal (series R) (λ j l. cut-equal R (h j l))
+
+  pub cut-plane-cut : (w r : ℕ) (a : Plane A) → cut-plane w r (cut-plane w r a) ≡ cut-plane w r a
+  cut-plane-cut w r a = cut-plane-equal (cut-plane-below w r a)
+
+  pub cut-plane-𝟙 : (w : ℕ) {r : ℕ} (a : Plane A) → 0 < r → a 0 ≡ 𝟙 → cut-plane (suc w) r a 0 ≡ 𝟙
+  cut-plane-𝟙 w a b unit =
+      rw (cut-below (series R) (suc w) _ 0 (omega arith), unit, 𝟙-constant R) (cut-constant R b (R .𝟙))
+
+  pub cut-plane-degree : {m q r : ℕ} (a : Plane A) → Degree (series R) m q a → AgreePlane m r (cut-plane (suc q) r a) a
+  cut-plane-degree {m} {q} {r} a h j b = at (decLt j (suc q))
+    where
+      at : Dec (j < suc q) → Agree r (cut-plane (suc q) r a j) (a j)
+      at (yes c) = cut-plane-below (suc q) r a j c
+      at (no c) = agree-equal (cut-beyond (series R) (suc q) _ j (omega arith) ∙ sym (h j (omega arith) b))

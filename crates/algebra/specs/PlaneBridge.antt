@@ -23,72 +23,31 @@ use mathlib.Core.Bool.{Bool, true, false, cond}
 use mathlib.Core.List.{List, reverse}
 use mathlib.Core.Path.{_≡_, refl, sym, ap, fun-ext, _∙_}
 use lib.Arith.{digits-lt}
-use lib.Dec.{eqb, ltb}
+use lib.Dec.{eqb}
 use lib.ListN.{length, take, drop}
 use native.Mathlib.Decide.{Fin·val-path}
 use native.Mathlib.Nat.{mod-eq-of-lt, mod-mod}
 use Rattle.algebra.specs.Alternate.{alternate-at}
 use Rattle.algebra.specs.Bridge.{reduced, series-of, listed, small-listed, product-series, constant-series}
-use Rattle.algebra.specs.Cut.{cut}
+use Rattle.algebra.specs.Cut.{cut, coefficients-cut}
 use Rattle.algebra.specs.Cut as Cut
 use Rattle.algebra.specs.Geometric as Geometric
 use Rattle.algebra.specs.Graeffe.{opposite-at, squared-at}
 use Rattle.algebra.specs.Graeffe as Graeffe
-use Rattle.algebra.specs.Homomorphism.{
-  Homomorphism,
-  coefficients,
-  coefficients-at,
-  coefficients-constant,
-  coefficientwise,
-  constants,
-  map-sum,
-}
+use Rattle.algebra.specs.Homomorphism.{coefficients, coefficients-at, coefficients-constant, coefficientwise, constants, map-sum}
 use Rattle.algebra.specs.Lists.{coefficient-tabulate, sum-naturals}
 use Rattle.algebra.specs.Negation.{Negation}
 use Rattle.algebra.specs.Plane.{Plane, AgreePlane, cut-plane}
 use Rattle.algebra.specs.Quotient.{quotient-next}
 use Rattle.algebra.specs.Quotient as Quotient
-use Rattle.algebra.specs.Residue.{
-  Residue,
-  residue,
-  residue-value,
-  residue-own,
-  residue-0,
-  residue-equal,
-  residue-+,
-  residue-*,
-  residue-negative,
-  residues,
-  residues-negation,
-  reduction,
-}
-use Rattle.algebra.specs.Rows.{
-  length-plane,
-  plane-agree,
-  agree-plane,
-  plane-planeAt,
-  planeAt-cut,
-  planeAt-inside,
-  row-plane,
-  plane-row,
-  plane-column,
-}
+use Rattle.algebra.specs.Residue.{Residue, residue, residue-value, residue-own, residue-0, residue-equal, residue-+, residue-*, residue-negative, residues, residues-negation, reduction}
+use Rattle.algebra.specs.Rows.{length-plane, plane-agree, agree-plane, plane-planeAt, planeAt-cut, planeAt-inside, row-plane, plane-row, plane-column}
 use Rattle.algebra.specs.Semiring.{Semiring, naturals}
 use Rattle.algebra.specs.Series.{Series, series, series-negation, neg-at, sum-at, ⊠-at, 𝟘-at, 𝟙-constant}
 use Rattle.algebra.specs.Spread.{spread-naturals, coefficients-spread}
 use Rattle.algebra.specs.Sum.{sum-cong}
 use Rattle.definition.specs.KinoshitaLi as Plain
-use Rattle.definition.specs.KinoshitaLi.{
-  planeAt,
-  plane,
-  negative,
-  product2,
-  product2Term,
-  cutProduct2At,
-  cutProduct2,
-  quotientTerm,
-  quotientNext,
-}
+use Rattle.definition.specs.KinoshitaLi.{planeAt, plane, negative, product2, product2Term, cutProduct2At, cutProduct2, quotientTerm, quotientNext}
 use Rattle.definition.specs.Lists.{sum, tabulate, coefficient}
 
 -- over the natural numbers
@@ -98,16 +57,6 @@ product2-series a b = fun-ext λ j. fun-ext λ i.
     rw (⊠-at (series naturals), sum-at naturals)
     (sum-naturals (suc j) (product2Term a b j i)
     ∙ sum-cong naturals (suc j) _ _ (λ l c. ap (λ s. s i) (product-series (a l) (b (j - l)))))
-
--- a homomorphism of the coefficients commutes with cuts
-coefficients-cut : {A B : Type 0} {R : Semiring A} {S : Semiring B} (φ : Homomorphism R S) (n : ℕ) (a : Series A)
-    → coefficients φ (cut R n a) ≡ cut S n (coefficients φ a)
-unfolding cut
-coefficients-cut {A} {R} {S} φ n a = fun-ext λ k. rw (coefficients-at φ, coefficients-at φ) (at (ltb k n) (a k))
-  where
-    at : (b : Bool) (x : A) → φ .map (cond b x (R .𝟘)) ≡ cond b (φ .map x) (S .𝟘)
-    at true x = refl
-    at false x = φ .map-𝟘
 
 module _ {p : ℕ} where
   abbrev values : Plane (Residue p) → Plane ℕ
@@ -268,7 +217,7 @@ module _ {p : ℕ} (l : 0 < p) where
   unfolding cutProduct2 cutProduct2At
   cutProduct2-listed r w a b = reduced-plane-listed r w (product2 a b) ∙ ap (listed-plane r w) (reduced-product2 a b)
 
-  module _ (a b : ℕ → ℕ) (unit : reduced l b 0 ≡ R .𝟙) where
+  module _ (a b : ℕ → ℕ) where
     U : Series (Residue p)
     U = Quotient.quotient R N (reduced l a) (reduced l b)
 
@@ -276,7 +225,7 @@ module _ {p : ℕ} (l : 0 < p) where
         → residue l (a k + sum k (quotientTerm p b u k)) ≡ U k
     unfolding quotientTerm U
     quotient-residue k u h =
-        rw (quotient-next R N (reduced l b) unit, residue-+ l, sum-naturals, map-sum (reduction l), coefficients-at (reduction l))
+        rw (quotient-next R N, residue-+ l, sum-naturals, map-sum (reduction l), coefficients-at (reduction l))
         (ap (R ._⊕_ (residue l (a k)))
         (sum-cong R k _ _ (λ i c. rw (residue-* l, residue-negative l, h i c, coefficients-at (reduction l)))))
 

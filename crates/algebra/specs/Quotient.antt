@@ -4,8 +4,8 @@
 --
 --   quotient R N P Q      P/Q: its constant term is P_0, its tail is (tail P - P_0 tail Q)/Q
 --   quotient-0 quotient-suc   these two equations
---   quotient-⊠            (P/Q) ⊠ Q is P
 --   quotient-next         coefficient k of P/Q from those before it: P_k - (Q_k U_0 + .. + Q_1 U_(k-1)), U = P/Q
+--   quotient-⊠            (P/Q) ⊠ Q is P
 --   ⊠-quotient            (U ⊠ Q)/Q is U
 --   quotient-unique       U is P/Q if U ⊠ Q is P
 --   quotient-respects     a relation that the operations of the coefficients respect is kept by quotients
@@ -14,14 +14,14 @@
 --   quotient-map          a homomorphism applied to each coefficient keeps quotients
 use Prim.Native.Nat.{ℕ, zero, suc, _-_, _<_}
 use mathlib.Core.Path.{_≡_, refl, sym, ap, fun-ext, _∙_}
-use native.Mathlib.Nat.{sub-self}
+use native.Mathlib.Nat.{sub-zero, suc-sub-suc}
 use native.Mathlib.Omega.{arith}
 use Rattle.algebra.specs.Agree.{Agree, agree-refl}
-use Rattle.algebra.specs.Homomorphism.{Homomorphism, coefficientwise, coefficients, coefficients-at}
+use Rattle.algebra.specs.Homomorphism.{Homomorphism, coefficients, coefficients-at, map-neg}
 use Rattle.algebra.specs.Negation.{Negation, signed, ⊕-neg-cancel}
 use Rattle.algebra.specs.Semiring.{Semiring, ring, ⊗-𝟙, ⊕-assoc, ⊕-comm, ⊕-𝟘}
-use Rattle.algebra.specs.Series.{Series, series, tail, ⊠-0, ⊠-suc, ⊠-at}
-use Rattle.algebra.specs.Sum.{sum, sum-suc, sum-⊕, sum-𝟘}
+use Rattle.algebra.specs.Series.{Series, series, tail, ⊠-0, ⊠-suc}
+use Rattle.algebra.specs.Sum.{sum, sum-0, sum-first}
 
 module _ {A : Type 0} (R : Semiring A) (N : Negation R) where
   open Semiring R using (𝟘, 𝟙, _⊕_, _⊗_)
@@ -41,6 +41,19 @@ module _ {A : Type 0} (R : Semiring A) (N : Negation R) where
       → quotient P Q (suc k) ≡ quotient (λ i. P (suc i) ⊕ neg (P 0 ⊗ Q (suc i))) Q k
   unfolding quotient
   quotient-suc P Q k = refl
+
+  pub quotient-next : (P Q : Series A) (k : ℕ)
+      → quotient P Q k ≡ P k ⊕ sum R k (λ i. neg (Q (k - i)) ⊗ quotient P Q i)
+  quotient-next P Q zero = rw (quotient-0, sum-0 R, ⊕-𝟘 R)
+  quotient-next P Q (suc k) =
+      rw (
+        quotient-suc P Q k,
+        quotient-next _ Q k,
+        sum-first R k (λ i. neg (Q (suc k - i)) ⊗ quotient P Q i),
+        sub-zero,
+        quotient-0,
+      )
+      (simp (quotient-suc, suc-sub-suc, ring, signed))
 
   module _ (_~_ : A → A → Type 0)
       (respects : (a b c x y z : A) → _~_ a x → _~_ b y → _~_ c z → _~_ (a ⊕ neg (b ⊗ c)) (x ⊕ neg (y ⊗ z))) where
@@ -70,26 +83,6 @@ module _ {A : Type 0} (R : Semiring A) (N : Negation R) where
     pub quotient-⊠ : (P : Series A) → quotient P Q ⊠ Q ≡ P
     quotient-⊠ P = fun-ext (quotient-⊠-at P)
 
-    pub quotient-next : (P : Series A) (k : ℕ)
-        → quotient P Q k ≡ P k ⊕ sum R k (λ i. neg (Q (k - i)) ⊗ quotient P Q i)
-    quotient-next P k = sym (
-        rw (
-          ← quotient-⊠-at P k,
-          ⊠-at R,
-          sum-suc R,
-          sub-self,
-          unit,
-          ⊗-𝟙 R,
-          ⊕-comm R (sum R k (λ i. quotient P Q i ⊗ Q (k - i))),
-          ⊕-assoc R,
-          ← sum-⊕ R k (λ i. quotient P Q i ⊗ Q (k - i)) (λ i. neg (Q (k - i)) ⊗ quotient P Q i),
-          sum-𝟘 R k _ cancels,
-          ⊕-𝟘 R,
-        ))
-      where
-        cancels : (i : ℕ) → i < k → quotient P Q i ⊗ Q (k - i) ⊕ neg (Q (k - i)) ⊗ quotient P Q i ≡ 𝟘
-        cancels i l = simp (ring, signed)
-
     ⊠-quotient-at : (U : Series A) (k : ℕ) → quotient (U ⊠ Q) Q k ≡ U k
     unfolding quotient
     ⊠-quotient-at U zero = rw (⊠-0 R, unit, ⊗-𝟙 R)
@@ -106,9 +99,14 @@ module _ {A : Type 0} (R : Semiring A) (N : Negation R) where
     ⊠-cancel U W h = rw (⊠-quotient U, ⊠-quotient W) at (agree-quotient h (agree-refl Q))
 
 module _ {A B : Type 0} {R : Semiring A} {S : Semiring B} (N : Negation R) (M : Negation S) (φ : Homomorphism R S) where
-  pub quotient-map : (P Q : Series A) → Q 0 ≡ R .𝟙
+  quotient-map-at : (P Q : Series A) (k : ℕ)
+      → φ .map (quotient R N P Q k) ≡ quotient S M (coefficients φ P) (coefficients φ Q) k
+  quotient-map-at P Q zero = rw (quotient-0 R N, quotient-0 S M, coefficients-at φ)
+  quotient-map-at P Q (suc k) =
+      rw (quotient-suc R N, quotient-suc S M, quotient-map-at _ Q k)
+      (ap (λ s. quotient S M s (coefficients φ Q) k)
+      (fun-ext λ i. simp (coefficients-at φ, φ .map-⊕, φ .map-⊗, map-neg φ N M)))
+
+  pub quotient-map : (P Q : Series A)
       → coefficients φ (quotient R N P Q) ≡ quotient S M (coefficients φ P) (coefficients φ Q)
-  quotient-map P Q unit =
-      quotient-unique S M (coefficients φ Q) (rw (coefficients-at φ, unit, φ .map-𝟙)) (coefficients φ P)
-      (coefficients φ (quotient R N P Q))
-      (sym (coefficientwise φ .map-⊗ (quotient R N P Q) Q) ∙ ap (coefficients φ) (quotient-⊠ R N Q unit P))
+  quotient-map P Q = fun-ext λ k. coefficients-at φ (quotient R N P Q) k ∙ quotient-map-at P Q k

@@ -21,18 +21,16 @@ use Prim.Native.Nat.{ℕ, zero, suc, _+_, _≤_}
 use mathlib.Core.List.{List}
 use mathlib.Core.Logic.{_↔_, _≢_}
 use mathlib.Core.Path.{_≡_, sym, ap, _∙_}
-use native.Mathlib.Decide.{decLt}
 use native.Mathlib.Nat.{zero-add}
 use native.Mathlib.Omega.{arith}
-use Rattle.algebra.specs.Agree.{Agree, Vanish, agree-neg, agree-refl, agree-sym}
+use Rattle.algebra.specs.Agree.{Agree, Vanish, agree-1, agree-suc, agree-neg, agree-refl, agree-sym, agree-⊞-vanish, agree-difference, vanish-neg, vanish-multiple}
 use Rattle.algebra.specs.Agree.{agree-trans, agree-weaken, agree-⊞, agree-⊠, vanish-⊠}
-use Rattle.algebra.specs.Derivative.{agree-⊞-vanish, derivative, derivative-0}
+use Rattle.algebra.specs.Derivative.{derivative, derivative-0}
 use Rattle.algebra.specs.Derivative.{derivative-indeterminate, derivative-substitute}
 use Rattle.algebra.specs.Derivative.{derivative-vanish, derivative-⊞, substitute-expand}
-use Rattle.algebra.specs.Derivative.{vanish-multiple}
 use Rattle.algebra.specs.Evaluate.{evaluate, polynomial}
 use Rattle.algebra.specs.Homomorphism.{Homomorphism, coefficients, composite, constants}
-use Rattle.algebra.specs.Negation.{Negation, equal-by-difference, neg-𝟘, neg-⊕}
+use Rattle.algebra.specs.Negation.{Negation, equal-by-difference, neg-⊕}
 use Rattle.algebra.specs.Negation.{⊕-cancel, ⊕-neg, ⊕-neg-cancel, ⊗-neg}
 use Rattle.algebra.specs.Semiring.{Semiring, 𝟘-⊕, ⊕-𝟘, 𝟘-⊗, ⊗-𝟘, 𝟙-⊗, ⊗-𝟙}
 use Rattle.algebra.specs.Semiring.{⊕-assoc, ⊕-left-comm, ⊗-assoc, ⊗-comm}
@@ -46,13 +44,6 @@ use Rattle.algebra.specs.Substitution.{substitute-assoc-agree, substitut
 use Rattle.algebra.specs.Substitution.{substitute-horner, substitute-indeterminate}
 use Rattle.algebra.specs.Substitution.{substitute-into-indeterminate}
 use Rattle.algebra.specs.Vanishing.{⊠-lowest}
-
-agree-suc : {A : Type 0} {n : ℕ} {a b : Series A} → Agree n a b → a n ≡ b n → Agree (suc n) a b
-agree-suc {n} h e k l =
-    elim (decLt k n) [ yes b ↦ h k b | no b ↦ (let i : k ≡ n = omega arith in rw i e) ]
-
-agree-1 : {A : Type 0} (a b : Series A) → a 0 ≡ b 0 → Agree 1 a b
-agree-1 a b = agree-suc (λ k l. absurd (omega arith))
 
 pub record Reverse {A : Type 0} (R : Semiring A) (n : ℕ) (g h : Series A) : Type 0 where
   pub no-constant : h 0 ≡ R .𝟘
@@ -136,12 +127,6 @@ module _ {A : Type 0} (R : Semiring A) where
     add-difference : (a b : Series A) → b ⊞ (a ⊞ neg b) ≡ a
     add-difference a b = rw (⊕-left-comm, ⊕-neg (series R) (series-negation R N), ⊕-𝟘)
 
-    agree-difference : {n : ℕ} {a b : Series A} → Agree n a b → Vanish R n (a ⊞ neg b)
-    agree-difference {b} h k l = rw (⊞-at, neg-at, h k l) (⊕-neg R N (b k))
-
-    vanish-neg : {n : ℕ} {a : Series A} → Vanish R n a → Vanish R n (neg a)
-    vanish-neg v k l = rw (neg-at, v k l) (neg-𝟘 R N)
-
     module _ (g h k : Series A) (c : A) (unit : c ⊗ g 1 ≡ 𝟙) (h-0 : h 0 ≡ 𝟘) (k-0 : k 0 ≡ 𝟘) where
       injective-at : {n : ℕ} → Agree (suc n) h k
           → substitute R g h (suc n) ≡ substitute R g k (suc n) → h (suc n) ≡ k (suc n)
@@ -155,7 +140,7 @@ module _ {A : Type 0} (R : Semiring A) where
           multiple : g 1 ⊗ δ (suc n) ≡ 𝟘
           multiple =
               ⊕-cancel R N (substitute R g k (suc n))
-              (sym (substitute-lowest g k k-0 (agree-difference a))
+              (sym (substitute-lowest g k k-0 (agree-difference R N a))
               ∙ rw (add-difference h k, e, ⊕-𝟘))
 
       pub substitute-injective : (n : ℕ) → Agree n (substitute R g h) (substitute R g k)
@@ -191,17 +176,17 @@ module _ {A : Type 0} (R : Semiring A) where
       reverses = λ i l.
           substitute-expand R h (r .no-constant) correction g i (omega arith)
           ∙ ap (λ a. a i) linear
-          ∙ agree-⊞-vanish R (indeterminate R) (vanish-neg square) i (omega arith);
+          ∙ agree-⊞-vanish R (indeterminate R) (vanish-neg R N square) i (omega arith);
     }
       where
         e : Series A
         e = substitute R g h ⊞ neg (indeterminate R)
 
         error : Vanish R (suc k) e
-        error = agree-difference (r .reverses)
+        error = agree-difference R N (r .reverses)
 
         correction : Vanish R (suc k) (neg (e ⊠ derivative R h))
-        correction = vanish-neg (vanish-multiple R (derivative R h) error)
+        correction = vanish-neg R N (vanish-multiple R (derivative R h) error)
 
         square : Vanish R (suc k + k) (e ⊠ derivative R e)
         square = vanish-⊠ R (suc k) k error (derivative-vanish R error)

@@ -18,38 +18,15 @@ use lib.Arith.{digits-lt, digits-div, digits-mod}
 use lib.ListN.{length, take, drop, length-take, length-drop}
 use lib.Seq.{getD-take, getD-drop}
 use native.Mathlib.Decide.{decLt}
-use native.Mathlib.Nat.{
-  div-add-mod',
-  div-eq-of-lt,
-  div-lt-iff-lt-mul,
-  div-one,
-  mod-eq-of-lt,
-  mod-lt,
-  mod-one,
-  mul-le-mul-right,
-  mul-one,
-  mul-zero,
-  one-mul,
-  suc-mul,
-}
+use native.Mathlib.Nat.{div-add-mod', div-eq-of-lt, div-lt-iff-lt-mul, div-one, mod-eq-of-lt, mod-lt, mod-one, mul-le-mul-right, mul-one, mul-zero, one-mul, suc-mul}
 use native.Mathlib.Omega.{arith}
-use Rattle.algebra.specs.Agree.{Agree}
-use Rattle.algebra.specs.Cut.{cut, cut-below, cut-beyond}
+use Rattle.algebra.specs.Cut.{cut-unique}
 use Rattle.algebra.specs.Lists.{coefficient-beyond, coefficient-tabulate, length-tabulate, tabulate-cong, table-of}
 use Rattle.algebra.specs.Plane.{Plane, AgreePlane, cut-plane}
-use Rattle.algebra.specs.Semiring.{Semiring, naturals}
-use Rattle.algebra.specs.Series.{Series, series, 𝟘-at}
+use Rattle.algebra.specs.Semiring.{naturals}
+use Rattle.algebra.specs.Series.{series, 𝟘-at}
 use Rattle.definition.specs.KinoshitaLi.{planeAt, planePlace, plane}
 use Rattle.definition.specs.Lists.{tabulate, coefficient}
-
--- a series that agrees with a below n and is 𝟘 from n on is the cut of a
-cut-unique : {A : Type 0} (R : Semiring A) {n : ℕ} {s a : Series A}
-    → Agree n s a → ((k : ℕ) → n ≤ k → s k ≡ R .𝟘) → s ≡ cut R n a
-cut-unique {A} R {n} {s} {a} h z = fun-ext λ k. at k (decLt k n)
-  where
-    at : (k : ℕ) → Dec (k < n) → s k ≡ cut R n a k
-    at k (yes b) = h k b ∙ sym (cut-below R n a k b)
-    at k (no b) = z k (omega arith) ∙ sym (cut-beyond R n a k (omega arith))
 
 -- place k stands in row k / r, at place k % r
 row-below : (w r k : ℕ) → k < w * r → (k / r < w) × (k % r < r)

@@ -8,7 +8,6 @@
 --   substitute-agree          substitution respects agreement below a place, in a and in u
 --
 -- For u with constant term 𝟘, given as u and the proof of that:
---   vanish-1                  u vanishes below 1
 --   recursion-unique          the equations F x = c x + u · F (next x) have at most one solution F
 --   recursion-agree           two solutions below n agree below n
 --   substitute-partial-sum    a(u) agrees below n with the sum of the first n terms
@@ -30,9 +29,9 @@ use mathlib.Core.List.{List}
 use mathlib.Core.Path.{_≡_, sym, ap, fun-ext, _∙_}
 use native.Mathlib.Nat.{le-dest, lt-suc-self, suc-add}
 use native.Mathlib.Omega.{arith}
-use Rattle.algebra.specs.Agree.{Agree, Vanish, agree-refl, agree-sym, agree-trans}
+use Rattle.algebra.specs.Agree.{Agree, agree-refl, agree-sym, agree-trans}
 use Rattle.algebra.specs.Agree.{agree-equal, agree-⊞, agree-⊠, agree-sum, agree-power}
-use Rattle.algebra.specs.Agree.{equal-agree, vanish-agree-⊠}
+use Rattle.algebra.specs.Agree.{agree-1, equal-agree, vanish-agree-⊠}
 use Rattle.algebra.specs.Evaluate.{evaluate, polynomial, map-evaluate, evaluate-indeterminate}
 use Rattle.algebra.specs.Homomorphism.{Homomorphism, composite, constants}
 use Rattle.algebra.specs.Homomorphism.{coefficients, coefficients-constant}
@@ -94,14 +93,10 @@ module _ {A : Type 0} (R : Semiring A) where
       (λ i b. agree-⊠ R (agree-equal (ap (constant R) (h i (omega arith)))) (agree-power R i g)) k l
 
   module _ (u : Series A) (h : u 0 ≡ 𝟘) where
-    pub vanish-1 : Vanish R 1 u
-    vanish-1 zero l = h
-    vanish-1 (suc k) l = absurd (omega arith)
-
     agree-further : {n : ℕ} (c : Series A) {a b : Series A} → Agree n a b
         → Agree (suc n) (c ⊞ u ⊠ a) (c ⊞ u ⊠ b)
     agree-further c e =
-        agree-⊞ R (agree-refl c) (λ k l. vanish-agree-⊠ R 1 vanish-1 e k (omega arith))
+        agree-⊞ R (agree-refl c) (λ k l. vanish-agree-⊠ R 1 (agree-1 u (λ i. 𝟘) h) e k (omega arith))
 
     module _ {X : Type 0} (c : X → Series A) (next : X → X) (F G : X → Series A) where
       pub recursion-agree : (n : ℕ) → ((x : X) → Agree n (F x) (c x ⊞ u ⊠ F (next x)))

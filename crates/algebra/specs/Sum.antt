@@ -6,14 +6,16 @@
 --   sum-+             a sum split at i
 --   sum-cong          sums of equal terms
 --   sum-𝟘 sum-single  all terms 𝟘; all but one
+--   sum-beyond        terms that are 𝟘 from q on may be left out
 --   sum-⊕             the sum of two sums
 --   ⊗-sum sum-⊗       a common factor
 --   sum-exchange      the order of two sums
 --   sum-reverse       the terms in reverse order
-use Prim.Native.Nat.{ℕ, zero, suc, _+_, _-_, _<_}
+--   sum-blocks        a sum of c p terms, taken by remainders modulo p
+use Prim.Native.Nat.{ℕ, zero, suc, _+_, _-_, _*_, _<_, _≤_}
 use mathlib.Core.Logic.{_≢_}
-use mathlib.Core.Path.{_≡_, refl, sym, ap}
-use native.Mathlib.Nat.{add-suc, add-zero, le-dest, suc-sub-suc, sub-zero}
+use mathlib.Core.Path.{_≡_, refl, sym, ap, _∙_}
+use native.Mathlib.Nat.{add-comm, add-suc, add-zero, le-dest, mul-comm, suc-mul, suc-sub-suc, sub-zero, zero-mul}
 use native.Mathlib.Omega.{arith}
 use Rattle.algebra.specs.Semiring.{Semiring, ⊕-assoc, ⊕-comm, ⊕-𝟘, 𝟘-⊕}
 use Rattle.algebra.specs.Semiring.{⊗-⊕, ⊗-𝟘, ⊗-comm, ⊕-interchange}
@@ -73,15 +75,17 @@ module _ {A : Type 0} (R : Semiring A) where
       rw (sum-suc (suc n) f, sum-first (suc n) (λ i. f (suc n - i)), sub-zero, ⊕-comm R (sum (suc n) f))
       (simp suc-sub-suc (ap (λ s. f (suc n) ⊕ s) (sum-reverse n f)))
 
+  pub sum-beyond : (q n : ℕ) (f : ℕ → A) → q ≤ n → ((i : ℕ) → q ≤ i → i < n → f i ≡ 𝟘) → sum n f ≡ sum q f
+  sum-beyond q n f u h =
+      let (r, e) = le-dest u in
+      rw (← e, sum-+, sum-𝟘 r (λ i. f (q + i)) (λ i v. h (q + i) (omega arith) (omega arith)), ⊕-𝟘)
+
   pub sum-single : (n j : ℕ) (f : ℕ → A) → j < n → ((i : ℕ) → i < n → i ≢ j → f i ≡ 𝟘) → sum n f ≡ f j
   sum-single n j f l h =
-      let (k, e) = le-dest l in
-      rw (
-        ← e,
-        sum-+ (suc j) k f,
-        sum-suc j f,
-        sum-𝟘 j f (λ i b. h i (omega arith) (omega arith)),
-        sum-𝟘 k (λ i. f (suc j + i)) (λ i b. h (suc j + i) (omega arith) (omega arith)),
-        ⊕-𝟘,
-        𝟘-⊕,
-      )
+      sum-beyond (suc j) n f l (λ i b u. h i u (omega arith))
+      ∙ rw (sum-suc, sum-𝟘 j f (λ i b. h i (omega arith) (omega arith)), 𝟘-⊕)
+
+  pub sum-blocks : (c p : ℕ) (f : ℕ → A) → sum (c * p) f ≡ sum p (λ j. sum c (λ i. f (j + p * i)))
+  sum-blocks zero p f = rw (zero-mul, sum-0) (sym (sum-𝟘 p _ (λ j l. sum-0 _)))
+  sum-blocks (suc c) p f =
+      rw (suc-mul, sum-+, sum-blocks c p f) (simp (sum-suc, sum-⊕, add-comm, mul-comm))

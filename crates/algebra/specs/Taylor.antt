@@ -13,10 +13,10 @@ use Rattle.algebra.specs.Evaluate.{evaluate}
 use Rattle.algebra.specs.Homomorphism.{Homomorphism, map-sum, map-power}
 use Rattle.algebra.specs.Lists.{sum-naturals}
 use Rattle.algebra.specs.Natural.{natural, natural-0, natural-along, power-naturals}
-use Rattle.algebra.specs.Parts.{evaluate-coefficients, sum-beyond}
+use Rattle.algebra.specs.Parts.{evaluate-coefficients}
 use Rattle.algebra.specs.Power.{power}
 use Rattle.algebra.specs.Semiring.{Semiring, naturals, ring, ⊗-assoc, ⊕-comm, 𝟘-⊗}
-use Rattle.algebra.specs.Sum.{sum, sum-cong, sum-exchange, ⊗-sum, sum-⊗}
+use Rattle.algebra.specs.Sum.{sum, sum-beyond, sum-cong, sum-exchange, ⊗-sum, sum-⊗}
 use Rattle.definition.specs.Lists.{coefficient}
 use Rattle.definition.specs.Taylor.{binomial, shifted, shiftedTerm}
 
