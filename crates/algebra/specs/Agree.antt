@@ -21,8 +21,7 @@ use native.Mathlib.Omega.{arith}
 use Rattle.algebra.specs.Negation.{Negation, neg-𝟘, ⊕-neg}
 use Rattle.algebra.specs.Power.{power, power-0, power-suc}
 use Rattle.algebra.specs.Semiring.{Semiring, ⊕-𝟘, 𝟘-⊗, ⊗-𝟘}
-use Rattle.algebra.specs.Series.{Series, series, series-negation}
-use Rattle.algebra.specs.Series.{𝟘-at, ⊞-at, ⊠-0, ⊠-suc, neg-at}
+use Rattle.algebra.specs.Series.{Series, series, series-negation, 𝟘-at, ⊞-at, ⊠-0, ⊠-suc, neg-at}
 use Rattle.algebra.specs.Sum.{sum, sum-0, sum-suc}
 
 abbrev pub Agree : {A : Type 0} → ℕ → Series A → Series A → Type 0

@@ -9,16 +9,13 @@
 --   alternate R N a       a(-x)
 --   alternate-at          coefficient i of a(-x) is a_i if i is even, else -a_i
 --   alternate-split       a(-x) is E(x²) - x O(x²)
---   alternate-involution  alternating twice changes nothing
---   agree-alternate       alternating respects agreement
 use Prim.Native.Nat.{ℕ, zero, suc, _*_, _/_, _%_, _<_}
 use lib.Dec.{eqb}
 use mathlib.Core.Bool.{cond}
 use mathlib.Core.Path.{_≡_, refl, sym, ap, fun-ext, _∙_}
 use native.Mathlib.Nat.{mul-mod-right, mul-div-cancel-left}
 use native.Mathlib.Omega.{arith}
-use Rattle.algebra.specs.Agree.{Agree, agree-refl}
-use Rattle.algebra.specs.Homomorphism.{Homomorphism, map-neg}
+use Rattle.algebra.specs.Homomorphism.{Homomorphism}
 use Rattle.algebra.specs.Negation.{Negation, neg-⊗, neg-𝟘, neg-neg}
 use Rattle.algebra.specs.Semiring.{Semiring, 𝟘-⊕, ⊕-𝟘}
 use Rattle.algebra.specs.Series.{
@@ -39,14 +36,7 @@ use Rattle.algebra.specs.Series.{
   neg-at,
 }
 use Rattle.algebra.specs.Spread.{spread, spread-at}
-use Rattle.algebra.specs.Substitution.{
-  substitution,
-  substitute-agree,
-  substitute-assoc,
-  substitute-horner,
-  substitute-indeterminate,
-  substitute-into-indeterminate,
-}
+use Rattle.algebra.specs.Substitution.{substitution, substitute-horner}
 
 abbrev pub even : {A : Type 0} → Series A → Series A
 even a i = a (2 * i)
@@ -139,18 +129,3 @@ module _ {A : Type 0} (R : Semiring A) (N : Negation R) where
   alternate-split a = rw (indeterminate-⊠ R) (equal-by-parity
       (λ i. rw (⊞-at R, spread-even R, neg-at R N, shift-spread-even R, neg-𝟘 R N, ⊕-𝟘 R, alternate-at, mul-mod-right))
       (λ i. rw (⊞-at R, spread-odd R, neg-at R N, shift-suc R, spread-even R, 𝟘-⊕ R, alternate-at, odd-mod)))
-
-  pub alternate-involution : (a : Series A) → alternate (alternate a) ≡ a
-  unfolding alternation -x
-  alternate-involution a =
-      rw (
-        substitute-assoc R a -x -x -x-0 -x-0,
-        map-neg alternation (series-negation R N) (series-negation R N),
-        substitute-indeterminate R -x -x-0,
-        neg-neg (series R) (series-negation R N),
-        substitute-into-indeterminate R,
-      )
-
-  pub agree-alternate : {n : ℕ} {a b : Series A} → Agree n a b → Agree n (alternate a) (alternate b)
-  unfolding alternation
-  agree-alternate h = substitute-agree R h (agree-refl -x)

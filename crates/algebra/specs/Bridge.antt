@@ -26,13 +26,39 @@ use native.Mathlib.Nat.{mod-eq-of-lt}
 use native.Mathlib.Omega.{arith}
 use Rattle.algebra.specs.Agree.{Agree}
 use Rattle.algebra.specs.Evaluate.{evaluate, evaluate-sum, map-evaluate}
-use Rattle.algebra.specs.Homomorphism.{Homomorphism, coefficients, coefficients-at, coefficients-constant, coefficients-indeterminate, coefficientwise, composite, constants, map-power}
+use Rattle.algebra.specs.Homomorphism.{
+  Homomorphism,
+  coefficients,
+  coefficients-at,
+  coefficients-constant,
+  coefficients-indeterminate,
+  coefficientwise,
+  composite,
+  constants,
+  map-power,
+}
 use Rattle.algebra.specs.Lists.{tabulate-cong, coefficient-tabulate, length-tabulate, table-of, sum-naturals, sum-cong}
 use Rattle.algebra.specs.Power.{power-0, power-suc}
 use Rattle.algebra.specs.Power as Power
 use Rattle.algebra.specs.Residue.{Residue, residue-value, residue-own, residue-+, residues, reduction}
 use Rattle.algebra.specs.Semiring.{Semiring, naturals, ⊗-comm}
-use Rattle.algebra.specs.Series.{Series, series, constant, indeterminate, indeterminate-0, indeterminate-shift, shift-suc, equal-by-tail, constant-0, constant-suc, constant-⊠-at, 𝟙-constant, ⊞-at, ⊠-at, sum-at}
+use Rattle.algebra.specs.Series.{
+  Series,
+  series,
+  constant,
+  indeterminate,
+  indeterminate-0,
+  indeterminate-shift,
+  shift-suc,
+  equal-by-tail,
+  constant-0,
+  constant-suc,
+  constant-⊠-at,
+  𝟙-constant,
+  ⊞-at,
+  ⊠-at,
+  sum-at,
+}
 use Rattle.algebra.specs.Spread.{spread, spread-naturals, coefficients-spread}
 use Rattle.algebra.specs.Sum as Sum
 use Rattle.definition.specs.Bernstein as Bernstein
@@ -41,7 +67,19 @@ use Rattle.definition.specs.Lists.{tabulate, coefficient}
 use Rattle.definition.specs.Ranged.{cutPowerAt, cutPower, joinedAt, joined}
 use Rattle.definition.specs.Reversion.{identity, identityAt}
 use Rattle.definition.specs.Substitution as Plain
-use Rattle.definition.specs.Substitution.{productTerm, product, power, substitutedTerm, substituted, composedAt, composed, cutProductAt, cutProduct, hornerStepAt, hornerStep}
+use Rattle.definition.specs.Substitution.{
+  productTerm,
+  product,
+  power,
+  substitutedTerm,
+  substituted,
+  composedAt,
+  composed,
+  cutProductAt,
+  cutProduct,
+  hornerStepAt,
+  hornerStep,
+}
 
 -- over the natural numbers
 

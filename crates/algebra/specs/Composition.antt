@@ -15,7 +15,19 @@ use lib.ListN.{length}
 use native.Mathlib.Nat.{mod-eq-of-lt}
 use native.Mathlib.Omega.{arith}
 use Rattle.algebra.specs.Agree.{Agree, Vanish, agree-refl, agree-sym, agree-trans, agree-⊞, agree-⊠}
-use Rattle.algebra.specs.Bridge.{series-of, residue-series, scalars, value, listed-agree, agree-listed, series-listed, composed-listed, hornerStep-listed, joined-listed, cutPower-listed}
+use Rattle.algebra.specs.Bridge.{
+  series-of,
+  residue-series,
+  scalars,
+  value,
+  listed-agree,
+  agree-listed,
+  series-listed,
+  composed-listed,
+  hornerStep-listed,
+  joined-listed,
+  cutPower-listed,
+}
 use Rattle.algebra.specs.Evaluate.{evaluate-∷, evaluate-++, evaluate-agree}
 use Rattle.algebra.specs.Homomorphism.{coefficients-at}
 use Rattle.algebra.specs.Power.{power}

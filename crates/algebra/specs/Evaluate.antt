@@ -5,7 +5,6 @@
 --   evaluate-++           the value of an appended list: xs(s) ⊕ s^|xs| ⊗ ys(s)
 --   evaluate-sum          the value is the sum of x_i s^i over i < n, for every n from the length on
 --   evaluate-cong         lists with the same coefficients have the same value, at any lengths
---   evaluate-⊕ evaluate-⊗     lists that are sums, or multiples, of others by their coefficients
 --   map-evaluate          a homomorphism commutes with evaluation
 --   evaluate-map          the value of a list whose entries were mapped by a homomorphism
 --   evaluate-agree        evaluation at series respects agreement
@@ -19,10 +18,9 @@ use native.Mathlib.Omega.{arith}
 use Rattle.algebra.specs.Agree.{Agree, agree-refl, agree-⊞, agree-⊠}
 use Rattle.algebra.specs.Homomorphism.{Homomorphism, composite, constants}
 use Rattle.algebra.specs.Power.{power, power-0, power-suc}
-use Rattle.algebra.specs.Semiring.{Semiring, ring, 𝟘-⊕, 𝟘-⊗, ⊕-assoc}
-use Rattle.algebra.specs.Semiring.{⊗-assoc, ⊗-⊕, ⊕-⊗, 𝟙-⊗, ⊗-𝟙}
+use Rattle.algebra.specs.Semiring.{Semiring, ring, 𝟘-⊕, 𝟘-⊗, ⊕-assoc, ⊗-assoc, ⊗-⊕, 𝟙-⊗, ⊗-𝟙}
 use Rattle.algebra.specs.Series.{Series, series, indeterminate, decompose, 𝟘-at}
-use Rattle.algebra.specs.Sum.{sum, sum-𝟘, sum-first, sum-⊕, ⊗-sum}
+use Rattle.algebra.specs.Sum.{sum, sum-𝟘, sum-first, ⊗-sum}
 
 module _ {A B : Type 0} {R : Semiring A} {S : Semiring B} (φ : Homomorphism R S) where
   open Semiring S using (𝟘, _⊕_, _⊗_)
@@ -68,25 +66,6 @@ module _ {A B : Type 0} {R : Semiring A} {S : Semiring B} (φ : Homomorphism R S
         evaluate-sum xs s (length xs + length ys) (omega arith),
         evaluate-sum ys s (length xs + length ys) (omega arith),
       ) (simp h)
-
-  pub evaluate-⊕ : (xs ys zs : List A) (s : B)
-      → ((i : ℕ) → getD zs i (R .𝟘) ≡ R ._⊕_ (getD xs i (R .𝟘)) (getD ys i (R .𝟘)))
-      → evaluate zs s ≡ evaluate xs s ⊕ evaluate ys s
-  evaluate-⊕ xs ys zs s h =
-      let n = length xs + length ys + length zs in
-      rw (
-        evaluate-sum xs s n (omega arith),
-        evaluate-sum ys s n (omega arith),
-        evaluate-sum zs s n (omega arith),
-      ) (simp (h, φ .map-⊕, ⊕-⊗, sum-⊕))
-
-  pub evaluate-⊗ : (c : A) (xs ys : List A) (s : B)
-      → ((i : ℕ) → getD ys i (R .𝟘) ≡ R ._⊗_ c (getD xs i (R .𝟘)))
-      → evaluate ys s ≡ φ .map c ⊗ evaluate xs s
-  evaluate-⊗ c xs ys s h =
-      let n = length xs + length ys in
-      rw (evaluate-sum xs s n (omega arith), evaluate-sum ys s n (omega arith))
-      (simp (h, φ .map-⊗, ⊗-assoc, ⊗-sum))
 
 module _ {A B C : Type 0} {R : Semiring A} {S : Semiring B} {T : Semiring C}
     (ψ : Homomorphism S T) (φ : Homomorphism R S) where

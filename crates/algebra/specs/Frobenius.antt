@@ -7,14 +7,7 @@ use Prim.Native.Nat.{ℕ, suc, _+_, _-_, _<_, _∣_}
 use mathlib.Core.Path.{_≡_, sym, ap, _∙_}
 use native.Mathlib.Nat.{mul-div-cancel', le-dest, suc-add, sub-self, sub-zero}
 use native.Mathlib.Omega.{arith}
-use Rattle.algebra.specs.Binomial.{
-  binomial-0,
-  binomial-diagonal,
-  binomial-prime,
-  binomial-term,
-  binomial-term-at,
-  binomial-theorem,
-}
+use Rattle.algebra.specs.Binomial.{binomial-0, binomial-diagonal, binomial-prime, binomial-term, binomial-term-at, binomial-theorem}
 use Rattle.algebra.specs.Homomorphism.{Homomorphism, constants}
 use Rattle.algebra.specs.Natural.{natural, natural-1, natural-*, map-natural}
 use Rattle.algebra.specs.Power.{power, power-0, power-𝟘, power-𝟙, power-⊗}

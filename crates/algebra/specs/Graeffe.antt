@@ -10,17 +10,7 @@
 --   opposite-degree graeffe-degree   the degree in y of Q(-x, y) is that of Q, the degree of V twice that
 use Prim.Native.Nat.{ℕ, _+_}
 use mathlib.Core.Path.{_≡_, refl, ap₂, fun-ext, _∙_}
-use Rattle.algebra.specs.Alternate.{
-  alternation,
-  alternate,
-  even,
-  odd,
-  split,
-  alternate-split,
-  even-spread,
-  even-fixed,
-  0<2,
-}
+use Rattle.algebra.specs.Alternate.{alternation, alternate, even, odd, split, alternate-split, even-spread, even-fixed, 0<2}
 use Rattle.algebra.specs.Cut.{Degree, ⊠-degree}
 use Rattle.algebra.specs.Homomorphism.{
   Homomorphism,
@@ -35,17 +25,7 @@ use Rattle.algebra.specs.Negation.{Negation, signed}
 use Rattle.algebra.specs.Plane.{Plane}
 use Rattle.algebra.specs.Power.{power-suc, power-1}
 use Rattle.algebra.specs.Semiring.{Semiring, ring, 𝟘-⊗, 𝟙-⊗}
-use Rattle.algebra.specs.Series.{
-  series,
-  series-negation,
-  indeterminate,
-  indeterminate-0,
-  ⊞-at,
-  ⊠-0,
-  constant,
-  constant-⊠-at,
-  neg-at,
-}
+use Rattle.algebra.specs.Series.{series, series-negation, indeterminate, indeterminate-0, ⊞-at, ⊠-0, constant, constant-⊠-at, neg-at}
 use Rattle.algebra.specs.Spread.{spread, spreading, spread-substitute}
 use Rattle.algebra.specs.Substitution.{substitute-indeterminate}
 

@@ -2,7 +2,6 @@
 --
 --   Homomorphism R S      a map that keeps 𝟘, 𝟙, sums and products
 --   map-power map-sum map-neg   it keeps powers, finite sums and negation
---   identity R            the identity
 --   composite ψ φ         ψ after φ
 --   constants R           the embedding of R into the series over R
 --   constant-𝟘 constant-⊕ constant-⊗   constants of 𝟘, of sums and of products
@@ -17,10 +16,26 @@ use mathlib.Core.Path.{_≡_, refl, sym, fun-ext, _∙_}
 use Rattle.algebra.specs.Negation.{Negation, neg-unique}
 use Rattle.algebra.specs.Power.{power, power-0, power-suc}
 use Rattle.algebra.specs.Semiring.{Semiring, ⊕-𝟘, ⊗-𝟘}
-use Rattle.algebra.specs.Series.{Series, series, tail, constant, constant-0}
-use Rattle.algebra.specs.Series.{constant-suc, constant-⊠-at, indeterminate, 𝟘-at}
-use Rattle.algebra.specs.Series.{𝟙-constant, ⊞-at, ⊠-0, ⊠-suc, shift, shift-0}
-use Rattle.algebra.specs.Series.{shift-suc, equal-by-tail, indeterminate-shift}
+use Rattle.algebra.specs.Series.{
+  Series,
+  series,
+  tail,
+  constant,
+  constant-0,
+  constant-suc,
+  constant-⊠-at,
+  indeterminate,
+  𝟘-at,
+  𝟙-constant,
+  ⊞-at,
+  ⊠-0,
+  ⊠-suc,
+  shift,
+  shift-0,
+  shift-suc,
+  equal-by-tail,
+  indeterminate-shift,
+}
 use Rattle.algebra.specs.Sum.{sum, sum-0, sum-suc}
 
 pub record Homomorphism {A B : Type 0} (R : Semiring A) (S : Semiring B) : Type 0 where
@@ -95,15 +110,6 @@ module _ {A : Type 0} (R : Semiring A) where
   infixl 60 _⊠_
   open Semiring R using (𝟘, 𝟙, _⊕_, _⊗_)
   open Semiring (series R) using (𝟘 as 𝟘ˢ, _⊕_ as _⊞_, _⊗_ as _⊠_)
-
-  abbrev pub identity : Homomorphism R R
-  identity = record {
-    map = λ a. a;
-    map-𝟘 = refl;
-    map-𝟙 = refl;
-    map-⊕ = λ a b. refl;
-    map-⊗ = λ a b. refl;
-  }
 
   pub constant-𝟘 : constant R 𝟘 ≡ 𝟘ˢ
   constant-𝟘 = equal-by-tail (rw (constant-0, 𝟘-at)) (λ k. rw (constant-suc, 𝟘-at))

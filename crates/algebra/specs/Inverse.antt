@@ -16,7 +16,16 @@ use lib.ListN.{length}
 use native.Mathlib.Nat.{mod-eq-of-lt}
 use native.Mathlib.Omega.{arith}
 use Rattle.algebra.specs.Bounded.{below}
-use Rattle.algebra.specs.Bridge.{series-of, composed-listed, identity-listed, agree-listed, value, listed, listed-agree, listed-series}
+use Rattle.algebra.specs.Bridge.{
+  series-of,
+  composed-listed,
+  identity-listed,
+  agree-listed,
+  value,
+  listed,
+  listed-agree,
+  listed-series,
+}
 use Rattle.algebra.specs.Composition.{series-constant}
 use Rattle.algebra.specs.Homomorphism.{coefficients-at}
 use Rattle.algebra.specs.Residue.{residues, residues-negation, residue-zero, residue-0, residue-1, reduction}

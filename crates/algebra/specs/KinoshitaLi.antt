@@ -15,7 +15,6 @@
 --   denominator-degree    the first bound on the degree of 1 - y g
 --   fraction-evaluate     f(g) is coefficient m - 1 of P/(1 - y g), with f's list reversed as P and m its length
 --   levels-evaluate       the levels give f(g) below x^n from every Q that agrees with 1 - y g below y^m and x^n
---   kinoshita-li          the levels give f(g) below x^n from 1 - y g
 use Prim.Native.Nat.{ℕ, zero, suc, _+_, _-_, _<_, _≤_, _^_, min}
 use lib.ListN.{length}
 use mathlib.Core.List.{List, [], _∷_, reverse}
@@ -29,10 +28,30 @@ use Rattle.algebra.specs.Alternate.{0<2}
 use Rattle.algebra.specs.Cut.{window, ⊠-window, Degree, cut, cut-below, cut-beyond, cut-equal}
 use Rattle.algebra.specs.Evaluate.{evaluate, polynomial}
 use Rattle.algebra.specs.Geometric.{denominator, quotient-evaluate}
-use Rattle.algebra.specs.Graeffe.{squared, squaring, squared-at, opposite, opposite-degree, graeffe, graeffe-0, graeffe-degree, squared-graeffe}
+use Rattle.algebra.specs.Graeffe.{
+  squared,
+  squaring,
+  squared-at,
+  opposite,
+  opposite-degree,
+  graeffe,
+  graeffe-0,
+  graeffe-degree,
+  squared-graeffe,
+}
 use Rattle.algebra.specs.Homomorphism.{coefficients, coefficients-at, constants, constant-term}
 use Rattle.algebra.specs.Negation.{Negation}
-use Rattle.algebra.specs.Plane.{Plane, AgreePlane, agree-plane-⊠, agree-plane-quotient, cut-plane, cut-plane-below, cut-plane-degree, cut-plane-equal, cut-plane-𝟙}
+use Rattle.algebra.specs.Plane.{
+  Plane,
+  AgreePlane,
+  agree-plane-⊠,
+  agree-plane-quotient,
+  cut-plane,
+  cut-plane-below,
+  cut-plane-degree,
+  cut-plane-equal,
+  cut-plane-𝟙,
+}
 use Rattle.algebra.specs.Quotient.{quotient, quotient-unique, quotient-⊠, quotient-map}
 use Rattle.algebra.specs.Semiring.{Semiring, ⊗-assoc, ⊗-comm}
 use Rattle.algebra.specs.Series.{Series, series, series-negation, constant-0}
@@ -171,11 +190,3 @@ module _ {A : Type 0} (R : Semiring A) (N : Negation R) (g : Series A) where
     where
       P : Series A
       P = polynomial R (reverse (x ∷ xs))
-
-  pub kinoshita-li : (f : List A) (n K : ℕ) → 0 < length f → 0 < n → n ≤ 2 ^ K
-      → levels R N (polynomial R (reverse f)) (length f) K n (min 1 (length f - 1)) (length f - 1) Q₀ 0
-      ≡ cut R n (evaluate (constants R) f g)
-  unfolding denominator
-  kinoshita-li f n K l a b =
-      levels-evaluate f n K (min 1 (length f - 1)) (length f - 1) Q₀ (omega arith) a b refl
-      (denominator-degree (length f)) (λ j u. agree-refl (Q₀ j))

@@ -26,7 +26,23 @@ use Rattle.algebra.specs.KinoshitaLi.{levels, levels-evaluate, denominat
 use Rattle.algebra.specs.Lists.{lists-equal}
 use Rattle.algebra.specs.Negation.{Negation}
 use Rattle.algebra.specs.Plane.{Plane, AgreePlane, cut-plane, cut-plane-below, cut-plane-cut, cut-plane-𝟙, cut-plane-degree}
-use Rattle.algebra.specs.PlaneBridge.{plane-of, listed-plane, listed-plane-agree, listed-plane-row, listed-plane-column, plane-of-plane, plane-of-listed, reduced-evenPart, reduced-opposite, reduced-squared, reduced-denominator, reduced-cutProduct2At, window-cutProduct2-listed, reduced-column, quotient-listed}
+use Rattle.algebra.specs.PlaneBridge.{
+  plane-of,
+  listed-plane,
+  listed-plane-agree,
+  listed-plane-row,
+  listed-plane-column,
+  plane-of-plane,
+  plane-of-listed,
+  reduced-evenPart,
+  reduced-opposite,
+  reduced-squared,
+  reduced-denominator,
+  reduced-cutProduct2At,
+  window-cutProduct2-listed,
+  reduced-column,
+  quotient-listed,
+}
 use Rattle.algebra.specs.Residue.{Residue, residue, residue-0, residues, residues-negation, reduction}
 use Rattle.algebra.specs.Semiring.{Semiring}
 use Rattle.algebra.specs.Series.{Series, series, series-negation, constant-0}

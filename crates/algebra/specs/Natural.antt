@@ -3,7 +3,6 @@
 --   natural R n       𝟙 ⊕ .. ⊕ 𝟙, n times
 --   natural-0 natural-suc natural-1   its equations, and the number 1
 --   natural-+ natural-*   sums and products of numbers
---   naturals-into R   the homomorphism from the natural numbers into R
 --   map-natural       a homomorphism keeps the natural numbers
 --   natural-along     a homomorphism from the natural numbers takes n to n
 --   natural-naturals power-naturals   numbers and powers in the semiring of natural numbers itself
@@ -40,15 +39,6 @@ module _ {A : Type 0} (R : Semiring A) where
   pub natural-* : (m n : ℕ) → natural (m * n) ≡ natural m ⊗ natural n
   natural-* m zero = rw (mul-zero, natural-0, ⊗-𝟘 R)
   natural-* m (suc n) = rw (mul-suc, natural-+, natural-suc, natural-* m n, ⊗-⊕ R, ⊗-𝟙 R)
-
-  abbrev pub naturals-into : Homomorphism naturals R
-  naturals-into = record {
-    map = natural;
-    map-𝟘 = natural-0;
-    map-𝟙 = natural-1;
-    map-⊕ = natural-+;
-    map-⊗ = natural-*;
-  }
 
 pub map-natural : {A B : Type 0} {R : Semiring A} {S : Semiring B} (φ : Homomorphism R S) (n : ℕ)
     → φ .map (natural R n) ≡ natural S n

@@ -10,8 +10,7 @@
 --   neg-⊗ ⊗-neg           a sign moves out of a product
 --   signed                the set of these laws: `simp (ring, signed)` also cancels a beside neg a
 use mathlib.Core.Path.{_≡_, sym, ap, _∙_}
-use Rattle.algebra.specs.Semiring.{Semiring, ⊕-assoc, ⊕-comm, 𝟘-⊕}
-use Rattle.algebra.specs.Semiring.{𝟘-⊗, ⊕-⊗, ⊗-comm, ⊕-interchange}
+use Rattle.algebra.specs.Semiring.{Semiring, ⊕-assoc, ⊕-comm, 𝟘-⊕, 𝟘-⊗, ⊕-⊗, ⊗-comm, ⊕-interchange}
 
 pub record Negation {A : Type 0} (R : Semiring A) : Type 0 where
   pub neg : A → A

@@ -17,7 +17,14 @@ use native.Mathlib.Omega.{arith, by-contra}
 use Rattle.algebra.specs.Agree.{Agree, agree-refl, agree-sum, agree-⊠}
 use Rattle.algebra.specs.Evaluate.{evaluate, evaluate-[], evaluate-cong, evaluate-sum, map-evaluate}
 use Rattle.algebra.specs.Homomorphism.{Homomorphism, composite, constants}
-use Rattle.algebra.specs.Lists.{ceilDiv-count, ceilDiv-covers, coefficient-beyond, coefficient-tabulate, length-tabulate, tabulate-beyond}
+use Rattle.algebra.specs.Lists.{
+  ceilDiv-count,
+  ceilDiv-covers,
+  coefficient-beyond,
+  coefficient-tabulate,
+  length-tabulate,
+  tabulate-beyond,
+}
 use Rattle.algebra.specs.Power.{power, power-+, power-*}
 use Rattle.algebra.specs.Semiring.{Semiring, naturals, ⊗-𝟘, ⊗-left-comm}
 use Rattle.algebra.specs.Series.{Series, series}

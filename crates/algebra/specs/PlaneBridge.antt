@@ -40,14 +40,47 @@ use Rattle.algebra.specs.Negation.{Negation}
 use Rattle.algebra.specs.Plane.{Plane, AgreePlane, cut-plane}
 use Rattle.algebra.specs.Quotient.{quotient-next}
 use Rattle.algebra.specs.Quotient as Quotient
-use Rattle.algebra.specs.Residue.{Residue, residue, residue-value, residue-own, residue-0, residue-equal, residue-+, residue-*, residue-negative, residues, residues-negation, reduction}
-use Rattle.algebra.specs.Rows.{length-plane, plane-agree, agree-plane, plane-planeAt, planeAt-cut, planeAt-inside, row-plane, plane-row, plane-column}
+use Rattle.algebra.specs.Residue.{
+  Residue,
+  residue,
+  residue-value,
+  residue-own,
+  residue-0,
+  residue-equal,
+  residue-+,
+  residue-*,
+  residue-negative,
+  residues,
+  residues-negation,
+  reduction,
+}
+use Rattle.algebra.specs.Rows.{
+  length-plane,
+  plane-agree,
+  agree-plane,
+  plane-planeAt,
+  planeAt-cut,
+  planeAt-inside,
+  row-plane,
+  plane-row,
+  plane-column,
+}
 use Rattle.algebra.specs.Semiring.{Semiring, naturals}
 use Rattle.algebra.specs.Series.{Series, series, series-negation, neg-at, sum-at, ⊠-at, 𝟘-at, 𝟙-constant}
 use Rattle.algebra.specs.Spread.{spread-naturals, coefficients-spread}
 use Rattle.algebra.specs.Sum.{sum-cong}
 use Rattle.definition.specs.KinoshitaLi as Plain
-use Rattle.definition.specs.KinoshitaLi.{planeAt, plane, negative, product2, product2Term, cutProduct2At, cutProduct2, quotientTerm, quotientNext}
+use Rattle.definition.specs.KinoshitaLi.{
+  planeAt,
+  plane,
+  negative,
+  product2,
+  product2Term,
+  cutProduct2At,
+  cutProduct2,
+  quotientTerm,
+  quotientNext,
+}
 use Rattle.definition.specs.Lists.{sum, tabulate, coefficient}
 
 -- over the natural numbers

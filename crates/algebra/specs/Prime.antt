@@ -2,7 +2,6 @@
 --
 --   prime-positive    a prime is above 0
 --   euclid            a prime that divides a product and not the first factor divides the second
---   prime-product     the same of remainders: a product of two numbers that a prime does not divide is not divided by it
 --   prime-by-trial    a number above 1 that no d from 2 with d d ≤ n divides is prime
 --   not-prime         a number with a divisor strictly between 1 and itself is not prime
 --   isPrime-true      the test is passed by a prime
@@ -64,9 +63,6 @@ euclid {p} P a b d z =
     let below : a % p < p = mod-lt a (omega (arith, P .above-one)) in
     euclid-below p P (a % p) b (omega arith) (omega arith) below
     (dvd-of-mod-eq-zero p (mod-mul-mod a b p ∙ mod-eq-zero-of-dvd p d))
-
-pub prime-product : {p : ℕ} → Prime p → (a b : ℕ) → a % p ≢ 0 → b % p ≢ 0 → (a * b) % p ≢ 0
-prime-product {p} P a b za zb e = zb (mod-eq-zero-of-dvd p (euclid P a b (dvd-of-mod-eq-zero p e) za))
 
 pub prime-by-trial : (n : ℕ) → 1 < n → ((d : ℕ) → 1 < d → d * d ≤ n → n % d ≢ 0) → Prime n
 prime-by-trial n l h = record { above-one = l; undivided = λ d b v. at d b v (n / d) (sym (div-mul-cancel d v)) }

@@ -23,26 +23,66 @@ use mathlib.Core.Logic.{_↔_, _≢_}
 use mathlib.Core.Path.{_≡_, sym, ap, _∙_}
 use native.Mathlib.Nat.{zero-add}
 use native.Mathlib.Omega.{arith}
-use Rattle.algebra.specs.Agree.{Agree, Vanish, agree-1, agree-suc, agree-neg, agree-refl, agree-sym, agree-⊞-vanish, agree-difference, vanish-neg, vanish-multiple}
-use Rattle.algebra.specs.Agree.{agree-trans, agree-weaken, agree-⊞, agree-⊠, vanish-⊠}
-use Rattle.algebra.specs.Derivative.{derivative, derivative-0}
-use Rattle.algebra.specs.Derivative.{derivative-indeterminate, derivative-substitute}
-use Rattle.algebra.specs.Derivative.{derivative-vanish, derivative-⊞, substitute-expand}
+use Rattle.algebra.specs.Agree.{
+  Agree,
+  Vanish,
+  agree-1,
+  agree-suc,
+  agree-neg,
+  agree-refl,
+  agree-sym,
+  agree-⊞-vanish,
+  agree-difference,
+  vanish-neg,
+  vanish-multiple,
+  agree-trans,
+  agree-weaken,
+  agree-⊞,
+  agree-⊠,
+  vanish-⊠,
+}
+use Rattle.algebra.specs.Derivative.{
+  derivative,
+  derivative-0,
+  derivative-indeterminate,
+  derivative-substitute,
+  derivative-vanish,
+  derivative-⊞,
+  substitute-expand,
+}
 use Rattle.algebra.specs.Evaluate.{evaluate, polynomial}
 use Rattle.algebra.specs.Homomorphism.{Homomorphism, coefficients, composite, constants}
-use Rattle.algebra.specs.Negation.{Negation, equal-by-difference, neg-⊕}
-use Rattle.algebra.specs.Negation.{⊕-cancel, ⊕-neg, ⊕-neg-cancel, ⊗-neg}
-use Rattle.algebra.specs.Semiring.{Semiring, 𝟘-⊕, ⊕-𝟘, 𝟘-⊗, ⊗-𝟘, 𝟙-⊗, ⊗-𝟙}
-use Rattle.algebra.specs.Semiring.{⊕-assoc, ⊕-left-comm, ⊗-assoc, ⊗-comm}
-use Rattle.algebra.specs.Semiring.{⊗-left-comm, ⊗-⊕}
-use Rattle.algebra.specs.Series.{Series, constant, constant-0, constant-suc}
-use Rattle.algebra.specs.Series.{indeterminate, indeterminate-0, indeterminate-shift}
-use Rattle.algebra.specs.Series.{neg-at, series, series-negation, shift, shift-0, shift-suc}
-use Rattle.algebra.specs.Series.{𝟙-constant, ⊞-at, ⊠-0, ⊠-suc}
-use Rattle.algebra.specs.Substitution.{substitute, substitute-0, substitute-agree}
-use Rattle.algebra.specs.Substitution.{substitute-assoc-agree, substitute-coefficients}
-use Rattle.algebra.specs.Substitution.{substitute-horner, substitute-indeterminate}
-use Rattle.algebra.specs.Substitution.{substitute-into-indeterminate}
+use Rattle.algebra.specs.Negation.{Negation, equal-by-difference, neg-⊕, ⊕-cancel, ⊕-neg, ⊕-neg-cancel, ⊗-neg}
+use Rattle.algebra.specs.Semiring.{Semiring, 𝟘-⊕, ⊕-𝟘, 𝟘-⊗, ⊗-𝟘, 𝟙-⊗, ⊗-𝟙, ⊕-assoc, ⊕-left-comm, ⊗-assoc, ⊗-comm, ⊗-left-comm, ⊗-⊕}
+use Rattle.algebra.specs.Series.{
+  Series,
+  constant,
+  constant-0,
+  constant-suc,
+  indeterminate,
+  indeterminate-0,
+  indeterminate-shift,
+  neg-at,
+  series,
+  series-negation,
+  shift,
+  shift-0,
+  shift-suc,
+  𝟙-constant,
+  ⊞-at,
+  ⊠-0,
+  ⊠-suc,
+}
+use Rattle.algebra.specs.Substitution.{
+  substitute,
+  substitute-0,
+  substitute-agree,
+  substitute-assoc-agree,
+  substitute-coefficients,
+  substitute-horner,
+  substitute-indeterminate,
+  substitute-into-indeterminate,
+}
 use Rattle.algebra.specs.Vanishing.{⊠-lowest}
 
 pub record Reverse {A : Type 0} (R : Semiring A) (n : ℕ) (g h : Series A) : Type 0 where

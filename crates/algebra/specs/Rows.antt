@@ -18,7 +18,20 @@ use lib.Arith.{digits-lt, digits-div, digits-mod}
 use lib.ListN.{length, take, drop, length-take, length-drop}
 use lib.Seq.{getD-take, getD-drop}
 use native.Mathlib.Decide.{decLt}
-use native.Mathlib.Nat.{div-add-mod', div-eq-of-lt, div-lt-iff-lt-mul, div-one, mod-eq-of-lt, mod-lt, mod-one, mul-le-mul-right, mul-one, mul-zero, one-mul, suc-mul}
+use native.Mathlib.Nat.{
+  div-add-mod',
+  div-eq-of-lt,
+  div-lt-iff-lt-mul,
+  div-one,
+  mod-eq-of-lt,
+  mod-lt,
+  mod-one,
+  mul-le-mul-right,
+  mul-one,
+  mul-zero,
+  one-mul,
+  suc-mul,
+}
 use native.Mathlib.Omega.{arith}
 use Rattle.algebra.specs.Cut.{cut-unique}
 use Rattle.algebra.specs.Lists.{coefficient-beyond, coefficient-tabulate, length-tabulate, tabulate-cong, table-of}

@@ -9,8 +9,7 @@
 --   naturals          the natural numbers
 use Prim.Native.Nat.{ℕ, _+_, _*_}
 use mathlib.Core.Path.{_≡_, sym, ap, _∙_}
-use native.Mathlib.Nat.{add-assoc, add-comm, mul-add, mul-assoc}
-use native.Mathlib.Nat.{mul-comm, one-mul, zero-add, zero-mul}
+use native.Mathlib.Nat.{add-assoc, add-comm, mul-add, mul-assoc, mul-comm, one-mul, zero-add, zero-mul}
 
 pub record Semiring (A : Type 0) : Type 0 where
   infixl 50 _⊕_

@@ -28,8 +28,7 @@ use native.Mathlib.Nat.{sub-zero, suc-add, suc-sub-suc, zero-add}
 use native.Mathlib.Omega.{arith}
 use Rattle.algebra.specs.Negation.{Negation}
 use Rattle.algebra.specs.Power.{power, power-0, power-suc}
-use Rattle.algebra.specs.Semiring.{Semiring, ⊕-assoc, ⊕-comm, ⊕-𝟘, 𝟘-⊕, ⊕-⊗, 𝟘-⊗}
-use Rattle.algebra.specs.Semiring.{⊗-assoc, ⊗-comm, ⊗-⊕, ⊕-interchange, 𝟙-⊗}
+use Rattle.algebra.specs.Semiring.{Semiring, ⊕-assoc, ⊕-comm, ⊕-𝟘, 𝟘-⊕, ⊕-⊗, 𝟘-⊗, ⊗-assoc, ⊗-comm, ⊗-⊕, ⊕-interchange, 𝟙-⊗}
 use Rattle.algebra.specs.Sum.{sum, sum-0, sum-suc, sum-first}
 
 abbrev pub Series : Type 0 → Type 0

@@ -16,7 +16,6 @@
 --   substitute-constant substitute-indeterminate substitute-indeterminate-⊠ substitute-⊠
 --                             it takes c to c, x to u, x · a to u · a(u) and products to products
 --   substitution              it is a homomorphism of the semiring of series
---   substitute-polynomial     of a polynomial it is the value at u
 --   substitute-into-indeterminate   a(x) is a
 --   substitute-assoc          (a(u))(w) is a(u(w))
 --   substitute-assoc-agree    the same below n, where a(u) and u(w) are known below n
@@ -29,21 +28,54 @@ use mathlib.Core.List.{List}
 use mathlib.Core.Path.{_≡_, sym, ap, fun-ext, _∙_}
 use native.Mathlib.Nat.{le-dest, lt-suc-self, suc-add}
 use native.Mathlib.Omega.{arith}
-use Rattle.algebra.specs.Agree.{Agree, agree-refl, agree-sym, agree-trans}
-use Rattle.algebra.specs.Agree.{agree-equal, agree-⊞, agree-⊠, agree-sum, agree-power}
-use Rattle.algebra.specs.Agree.{agree-1, equal-agree, vanish-agree-⊠}
+use Rattle.algebra.specs.Agree.{
+  Agree,
+  agree-refl,
+  agree-sym,
+  agree-trans,
+  agree-equal,
+  agree-⊞,
+  agree-⊠,
+  agree-sum,
+  agree-power,
+  agree-1,
+  equal-agree,
+  vanish-agree-⊠,
+}
 use Rattle.algebra.specs.Evaluate.{evaluate, polynomial, map-evaluate, evaluate-indeterminate}
-use Rattle.algebra.specs.Homomorphism.{Homomorphism, composite, constants}
-use Rattle.algebra.specs.Homomorphism.{coefficients, coefficients-constant}
-use Rattle.algebra.specs.Homomorphism.{coefficients-indeterminate, coefficientwise}
-use Rattle.algebra.specs.Homomorphism.{constant-𝟘, constant-⊕, constant-⊗}
+use Rattle.algebra.specs.Homomorphism.{
+  Homomorphism,
+  composite,
+  constants,
+  coefficients,
+  coefficients-constant,
+  coefficients-indeterminate,
+  coefficientwise,
+  constant-𝟘,
+  constant-⊕,
+  constant-⊗,
+}
 use Rattle.algebra.specs.Power.{power, power-0, power-suc}
-use Rattle.algebra.specs.Semiring.{Semiring, ⊕-𝟘, 𝟘-⊕, 𝟘-⊗, ⊗-𝟘}
-use Rattle.algebra.specs.Semiring.{⊗-𝟙, ⊕-⊗, ⊗-assoc, ⊗-left-comm}
-use Rattle.algebra.specs.Series.{Series, series, tail, constant, constant-0}
-use Rattle.algebra.specs.Series.{constant-⊠-at, indeterminate, indeterminate-0}
-use Rattle.algebra.specs.Series.{decompose, ⊞-at, ⊠-0, 𝟙-constant, tail-constant}
-use Rattle.algebra.specs.Series.{shift, shift-0, tail-shift, indeterminate-⊠}
+use Rattle.algebra.specs.Semiring.{Semiring, ⊕-𝟘, 𝟘-⊕, 𝟘-⊗, ⊗-𝟘, ⊗-𝟙, ⊕-⊗, ⊗-assoc, ⊗-left-comm}
+use Rattle.algebra.specs.Series.{
+  Series,
+  series,
+  tail,
+  constant,
+  constant-0,
+  constant-⊠-at,
+  indeterminate,
+  indeterminate-0,
+  decompose,
+  ⊞-at,
+  ⊠-0,
+  𝟙-constant,
+  tail-constant,
+  shift,
+  shift-0,
+  tail-shift,
+  indeterminate-⊠,
+}
 use Rattle.algebra.specs.Sum.{sum, sum-first, sum-⊕, ⊗-sum}
 
 module _ {A : Type 0} (R : Semiring A) where
@@ -166,15 +198,6 @@ module _ {A : Type 0} (R : Semiring A) where
     pub substitute-indeterminate : substitute (indeterminate R) u ≡ u
     substitute-indeterminate =
         rw (← ⊗-𝟙 (series R) (indeterminate R), substitute-indeterminate-⊠, substitution .map-𝟙, ⊗-𝟙)
-
-    pub substitute-polynomial : (xs : List A)
-        → substitute (polynomial R xs) u ≡ evaluate (constants R) xs u
-    substitute-polynomial xs =
-        rw (
-          ← evaluate-indeterminate R xs,
-          map-evaluate substitution (constants R) (constants R) substitute-constant xs,
-          substitute-indeterminate,
-        )
 
   pub substitute-into-indeterminate : (a : Series A) → substitute a (indeterminate R) ≡ a
   substitute-into-indeterminate = recursion-unique (indeterminate R) (indeterminate-0 R)

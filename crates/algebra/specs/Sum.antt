@@ -10,15 +10,13 @@
 --   sum-⊕             the sum of two sums
 --   ⊗-sum sum-⊗       a common factor
 --   sum-exchange      the order of two sums
---   sum-reverse       the terms in reverse order
 --   sum-blocks        a sum of c p terms, taken by remainders modulo p
-use Prim.Native.Nat.{ℕ, zero, suc, _+_, _-_, _*_, _<_, _≤_}
+use Prim.Native.Nat.{ℕ, zero, suc, _+_, _*_, _<_, _≤_}
 use mathlib.Core.Logic.{_≢_}
 use mathlib.Core.Path.{_≡_, refl, sym, ap, _∙_}
-use native.Mathlib.Nat.{add-comm, add-suc, add-zero, le-dest, mul-comm, suc-mul, suc-sub-suc, sub-zero, zero-mul}
+use native.Mathlib.Nat.{add-comm, add-suc, add-zero, le-dest, mul-comm, suc-mul, zero-mul}
 use native.Mathlib.Omega.{arith}
-use Rattle.algebra.specs.Semiring.{Semiring, ⊕-assoc, ⊕-comm, ⊕-𝟘, 𝟘-⊕}
-use Rattle.algebra.specs.Semiring.{⊗-⊕, ⊗-𝟘, ⊗-comm, ⊕-interchange}
+use Rattle.algebra.specs.Semiring.{Semiring, ⊕-assoc, ⊕-comm, ⊕-𝟘, 𝟘-⊕, ⊗-⊕, ⊗-𝟘, ⊗-comm, ⊕-interchange}
 
 module _ {A : Type 0} (R : Semiring A) where
   open Semiring R using (𝟘, _⊕_, _⊗_)
@@ -68,12 +66,6 @@ module _ {A : Type 0} (R : Semiring A) where
   sum-exchange zero n f = simp sum-0 (sym (sum-𝟘 n (λ j. 𝟘) (λ j l. refl)))
   sum-exchange (suc m) n f =
       simp (sum-suc, sum-⊕) (ap (λ s. s ⊕ sum n (f m)) (sum-exchange m n f))
-
-  pub sum-reverse : (n : ℕ) (f : ℕ → A) → sum (suc n) f ≡ sum (suc n) (λ i. f (n - i))
-  sum-reverse zero f = rw (sum-suc, sum-suc, sum-0, sum-0, sub-zero)
-  sum-reverse (suc n) f =
-      rw (sum-suc (suc n) f, sum-first (suc n) (λ i. f (suc n - i)), sub-zero, ⊕-comm R (sum (suc n) f))
-      (simp suc-sub-suc (ap (λ s. f (suc n) ⊕ s) (sum-reverse n f)))
 
   pub sum-beyond : (q n : ℕ) (f : ℕ → A) → q ≤ n → ((i : ℕ) → q ≤ i → i < n → f i ≡ 𝟘) → sum n f ≡ sum q f
   sum-beyond q n f u h =

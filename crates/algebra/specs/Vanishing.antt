@@ -7,20 +7,19 @@
 --   combination-at      its coefficients
 --   vanishing           when a combination vanishes below n
 --   agreement           when two combinations agree below n
---   evaluate-vanishing  when the value of a polynomial at u vanishes below n
 --   taylor-agreement    when f(c + u) and h(c + u) agree below n: when f and h have the same coefficients i in powers of (z - c),
 --                       for all i with i v < n
 use Prim.Native.Nat.{ℕ, zero, suc, _+_, _-_, _*_, _<_, _≤_}
 use mathlib.Core.List.{List}
 use mathlib.Core.Logic.{_↔_, _≢_}
 use mathlib.Core.Path.{_≡_, sym, ap, _∙_}
-use lib.ListN.{getD, length}
+use lib.ListN.{length}
 use native.Mathlib.Decide.{decLt}
 use native.Mathlib.Nat.{add-comm, add-sub-cancel-left, le-of-lt, mul-le-mul-right, mul-lt-mul-of-pos-right, suc-mul, zero-mul}
 use native.Mathlib.Omega.{arith}
 use Rattle.algebra.specs.Agree.{Agree, Vanish, vanish-power}
 use Rattle.algebra.specs.Domain.{NoZeroDivisors, power-nonzero}
-use Rattle.algebra.specs.Evaluate.{evaluate, evaluate-sum}
+use Rattle.algebra.specs.Evaluate.{evaluate}
 use Rattle.algebra.specs.Homomorphism.{Homomorphism, composite, constants}
 use Rattle.algebra.specs.Negation.{Negation, ⊕-neg, ⊕-cancel}
 use Rattle.algebra.specs.Power.{power, power-0, power-suc}
@@ -120,20 +119,6 @@ module _ {A : Type 0} (R : Semiring A) where
           split-at k =
               rw (combination-at m a u k, combination-at m b u k, combination-at m difference u k, ← sum-⊕ R)
               (sum-cong R m _ _ (λ i s. ap (λ w. w ⊗ power (series R) u i k) (split i) ∙ ⊕-⊗ R (b i) (difference i) _))
-
-module _ {A : Type 0} (R : Semiring A) (domain : NoZeroDivisors R)
-    {n v : ℕ} (u : Series A) (l : 0 < v) (low : Vanish R v u) (first : v < n → u v ≢ R .𝟘) where
-  pub evaluate-vanishing : (xs : List A)
-      → Vanish R n (evaluate (constants R) xs u) ↔ ((i : ℕ) → i * v < n → getD xs i (R .𝟘) ≡ R .𝟘)
-  evaluate-vanishing xs = (
-    (λ e i. rule (length xs + suc i) (omega arith) .0 e i (omega arith)),
-    (λ e. rule (length xs) (omega arith) .1 (λ i s. e i)),
-  )
-    where
-      rule : (m : ℕ) → length xs ≤ m
-          → Vanish R n (evaluate (constants R) xs u) ↔ ((i : ℕ) → i < m → i * v < n → getD xs i (R .𝟘) ≡ R .𝟘)
-      rule m b =
-          rw (evaluate-sum (constants R) xs u m b) (vanishing R domain u l low first m (λ i. getD xs i (R .𝟘)))
 
 module _ {A : Type 0} (R : Semiring A) (N : Negation R) (domain : NoZeroDivisors R) (φ : Homomorphism naturals R) (c : ℕ)
     {n v : ℕ} (u : Series A) (l : 0 < v) (low : Vanish R v u) (first : v < n → u v ≢ R .𝟘) where
