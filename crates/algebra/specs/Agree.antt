@@ -5,11 +5,11 @@
 --   agree-refl agree-sym agree-trans   agreement is an equivalence
 --   agree-equal equal-agree   equal series agree; series that agree below every place are equal
 --   agree-weaken      agreement below n gives agreement below m ≤ n
---   agree-1 agree-suc agreement below 1, and one place further
+--   agree-1 agree-suc   agreement below 1, and one place further
 --   agree-⊞ agree-⊠ agree-power agree-sum agree-neg   the operations respect agreement
 --   vanish-𝟘          a series vanishes below n if it agrees with 𝟘 there, and the other way round
 --   vanish-agree-⊠    a factor that vanishes below i carries agreement i places further
---   vanish-⊠ vanish-multiple vanish-power vanish-neg   products, multiples, powers and negatives of series that vanish below a place
+--   vanish-⊠ vanish-multiple vanish-power vanish-neg   products, powers and negatives of series that vanish below a place
 --   agree-⊞-vanish    a summand that vanishes below n may be left out there
 --   agree-difference  the difference of series that agree below n vanishes there
 use Prim.Native.Nat.{ℕ, zero, suc, _+_, _*_, _<_, _≤_}

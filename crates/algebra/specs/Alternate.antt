@@ -4,6 +4,7 @@
 --   equal-by-parity       series are equal if their even and their odd parts are
 --   even-spread           the even part of s(x²) is s
 --   even-fixed            s is its own even part if s(x²) is s
+--   0<2                   the premise of the laws of `spread R 2`
 --   split                 a is E(x²) + x O(x²), with E and O its even and its odd part
 --   alternation R N       the homomorphism of series that puts -x for x
 --   alternate R N a       a(-x)

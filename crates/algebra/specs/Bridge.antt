@@ -13,8 +13,11 @@
 --   residue-series l       the semiring of series over the residues
 --   scalars l              natural numbers as constant series
 --   value l f s            the polynomial f, a list of natural numbers, at a series s
---   product-series power-series substituted-series   the sequences of the definitions are those of the algebra, over the natural numbers
---   composed-listed cutProduct-listed hornerStep-listed cutPower-listed joined-listed   each list of the definitions, read off a series
+--   small-listed reduced-listed   tables of numbers below p, and of remainders
+--   product-series constant-series identity-series power-series substituted-series
+--                          the sequences of the definitions are those of the algebra, over the natural numbers
+--   composed-listed cutProduct-listed hornerStep-listed cutPower-listed joined-listed spreadList-listed identity-listed
+--                          each list of the definitions, read off a series
 use Prim.Native.Nat.{ℕ, zero, suc, _+_, _/_, _%_, _<_}
 use lib.Dec.{eqb}
 use mathlib.Core.Bool.{Bool, true, false, cond}
@@ -97,7 +100,9 @@ constant-series c = fun-ext at
 
 pub identity-series : identityAt ≡ indeterminate naturals
 unfolding identityAt
-identity-series = equal-by-tail (sym (indeterminate-0 naturals)) (λ k. rw (constant-series 1, indeterminate-shift naturals, shift-suc naturals, 𝟙-constant naturals))
+identity-series =
+    equal-by-tail (sym (indeterminate-0 naturals))
+    (λ k. rw (constant-series 1, indeterminate-shift naturals, shift-suc naturals, 𝟙-constant naturals))
 
 pub power-series : (g : ℕ → ℕ) (i : ℕ) → power g i ≡ Power.power (series naturals) g i
 unfolding power
@@ -153,7 +158,6 @@ module _ {p : ℕ} (l : 0 < p) where
   pub series-listed : (n : ℕ) (s : Series (Residue p)) → Agree n (series-of (listed n s)) s
   series-listed n s k b = rw (coefficients-at (reduction l), coefficient-listed n s k b) (residue-own l (s k))
 
-  -- a table of numbers below p is read off the series of their residues
   pub small-listed : (n : ℕ) (a : ℕ → ℕ) → ((k : ℕ) → k < n → a k < p) → tabulate n a ≡ listed n (reduced a)
   unfolding listed
   small-listed n a h =
@@ -162,7 +166,6 @@ module _ {p : ℕ} (l : 0 < p) where
   pub listed-series : (n : ℕ) (xs : List ℕ) → length xs ≡ n → ((k : ℕ) → k < n → coefficient xs k < p) → listed n (series-of xs) ≡ xs
   listed-series n xs e h = sym (table-of n (coefficient xs) xs e (λ k b. refl) ∙ small-listed n (coefficient xs) h)
 
-  -- a table of remainders is read off the series of the residues
   pub reduced-listed : (n : ℕ) (a : ℕ → ℕ) → tabulate n (λ k. a k % p) ≡ listed n (reduced a)
   unfolding listed
   reduced-listed n a =
@@ -200,7 +203,12 @@ module _ {p : ℕ} (l : 0 < p) where
   hornerStep-listed n c s g =
       reduced-listed n (λ k. Plain.constant c k + product (coefficient s) (coefficient g) k)
       ∙ ap (listed n)
-      (rw (reduced-⊞ (Plain.constant c) (product (coefficient s) (coefficient g)), reduced-⊠, constant-series c, coefficients-constant (reduction l)))
+      (rw (
+        reduced-⊞ (Plain.constant c) (product (coefficient s) (coefficient g)),
+        reduced-⊠,
+        constant-series c,
+        coefficients-constant (reduction l),
+      ))
 
   pub joined-listed : (n : ℕ) (s t u : List ℕ) → joined p n s t u ≡ listed n (series-of s ⊞ series-of t ⊠ series-of u)
   unfolding joined joinedAt

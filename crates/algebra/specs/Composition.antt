@@ -60,7 +60,12 @@ module _ {p : ℕ} (l : 0 < p) where
   pub composed-++ : (n : ℕ) (f h g : List ℕ)
       → joined p n (composed p n f g) (composed p n h g) (cutPower p n g (length f)) ≡ composed p n (f ++ h) g
   composed-++ n f h g =
-      rw (joined-listed l, composed-listed l n (f ++ h) g, evaluate-++ (scalars l), ⊗-comm (residue-series l) (power (residue-series l) (series-of l g) (length f)))
+      rw (
+        joined-listed l,
+        composed-listed l n (f ++ h) g,
+        evaluate-++ (scalars l),
+        ⊗-comm (residue-series l) (power (residue-series l) (series-of l g) (length f)),
+      )
       (listed-agree
       (agree-⊞ (residues l) (series-composed n f g)
       (agree-⊠ (residues l) (series-composed n h g)
@@ -119,7 +124,8 @@ module _ {p : ℕ} (P : Prime p) (n : ℕ) (g : List ℕ) (below : (k : ℕ) →
 
   leading-residues : (f h : List ℕ)
       → (leading p n f g ≡ leading p n h g)
-      ↔ ((i : ℕ) → i * valuation n g < n → residue positive (shifted f (coefficient g 0) i) ≡ residue positive (shifted h (coefficient g 0) i))
+      ↔ ((i : ℕ) → i * valuation n g < n
+      → residue positive (shifted f (coefficient g 0) i) ≡ residue positive (shifted h (coefficient g 0) i))
   unfolding leading leadingAt
   leading-residues f h = (
     λ e i b.
@@ -139,5 +145,7 @@ module _ {p : ℕ} (P : Prime p) (n : ℕ) (g : List ℕ) (below : (k : ℕ) →
 
   pub composed-equal : (f h : List ℕ) → (composed p n f g ≡ composed p n h g) ↔ (leading p n f g ≡ leading p n h g)
   composed-equal f h =
-      let t = taylor-agreement (residues positive) (residues-negation positive) (residues-domain positive P) (reduction positive) (coefficient g 0) rest (valuation-positive n g) rest-low rest-first f h in
+      let t =
+      taylor-agreement (residues positive) (residues-negation positive) (residues-domain positive P) (reduction positive)
+      (coefficient g 0) rest (valuation-positive n g) rest-low rest-first f h in
       Iff·trans (composed-residues f h) (Iff·trans (rw split t) (Iff·symm (leading-residues f h)))

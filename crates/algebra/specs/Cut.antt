@@ -13,15 +13,15 @@
 use Prim.Native.Nat.{ℕ, zero, suc, _+_, _-_, _<_, _≤_}
 use borrow.Author.Tests.{lt-ltb, le-ltb}
 use lib.Dec.{ltb}
-use mathlib.Core.Bool.{Bool, true, false, cond}
-use mathlib.Core.Path.{_≡_, refl, sym, ap, fun-ext, _∙_}
+use mathlib.Core.Bool.{cond}
+use mathlib.Core.Path.{_≡_, sym, ap, fun-ext, _∙_}
 use native.Mathlib.Decide.{decLe, decLt}
 use native.Mathlib.Nat.{suc-add, zero-add}
 use native.Mathlib.Omega.{arith}
 use Rattle.algebra.specs.Agree.{Agree, agree-refl, agree-trans}
-use Rattle.algebra.specs.Homomorphism.{Homomorphism, coefficients, coefficients-at}
+use Rattle.algebra.specs.Homomorphism.{Homomorphism, coefficients, coefficients-at, map-cond}
 use Rattle.algebra.specs.Semiring.{Semiring, ⊗-𝟘, 𝟘-⊗, 𝟘-⊕}
-use Rattle.algebra.specs.Series.{Series, series, constant, constant-suc, tail, ⊠-at, ⊠-suc}
+use Rattle.algebra.specs.Series.{Series, series, constant, constant-above, tail, ⊠-at, ⊠-suc}
 use Rattle.algebra.specs.Sum.{sum-𝟘}
 
 abbrev pub window : {A : Type 0} → ℕ → Series A → Series A
@@ -78,17 +78,9 @@ module _ {A : Type 0} (R : Semiring A) where
   cut-equal {n} {a} h = cut-unique (agree-trans (cut-below n a) h) (cut-beyond n a)
 
   pub cut-constant : {n : ℕ} → 0 < n → (c : A) → cut n (constant R c) ≡ constant R c
-  cut-constant {n} l c = sym (cut-unique (agree-refl _) beyond)
-    where
-      beyond : (k : ℕ) → n ≤ k → constant R c k ≡ 𝟘
-      beyond zero b = absurd (omega arith)
-      beyond (suc k) b = constant-suc R c k
+  cut-constant {n} l c = sym (cut-unique (agree-refl _) (λ k b. constant-above R c k (omega arith)))
 
 module _ {A B : Type 0} {R : Semiring A} {S : Semiring B} (φ : Homomorphism R S) where
   pub coefficients-cut : (n : ℕ) (a : Series A) → coefficients φ (cut R n a) ≡ cut S n (coefficients φ a)
   unfolding cut
-  coefficients-cut n a = fun-ext λ k. rw (coefficients-at φ, coefficients-at φ) (at (ltb k n) (a k))
-    where
-      at : (b : Bool) (x : A) → φ .map (cond b x (R .𝟘)) ≡ cond b (φ .map x) (S .𝟘)
-      at true x = refl
-      at false x = φ .map-𝟘
+  coefficients-cut n a = fun-ext λ k. rw (coefficients-at φ, coefficients-at φ) (map-cond φ (ltb k n) (a k))

@@ -52,7 +52,7 @@ module _ {A : Type 0} (R : Semiring A) where
   expand-step c u δ s d = simp ring
 
 module _ {A : Type 0} (R : Semiring A) where
-  open Semiring R using (𝟘, _⊕_, _⊗_)
+  open Semiring R using (𝟘, _⊗_)
   open Semiring (series R) using (𝟘 as 𝟘ˢ, 𝟙 as 𝟙ˢ, _⊕_ as _⊞_, _⊗_ as _⊠_)
 
   infixl 50 _⊞_

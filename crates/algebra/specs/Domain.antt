@@ -11,7 +11,7 @@ use Rattle.algebra.specs.Power.{power, power-0, power-suc}
 use Rattle.algebra.specs.Semiring.{Semiring, ⊗-⊕, ⊗-𝟙, ⊗-𝟘}
 
 module _ {A : Type 0} (R : Semiring A) where
-  open Semiring R using (𝟘, 𝟙, _⊕_, _⊗_)
+  open Semiring R using (𝟘, _⊕_, _⊗_)
 
   abbrev pub NoZeroDivisors : Type 0
   NoZeroDivisors = (a b : A) → a ≢ 𝟘 → a ⊗ b ≡ 𝟘 → b ≡ 𝟘

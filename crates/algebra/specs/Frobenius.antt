@@ -21,7 +21,7 @@ pub series-characteristic : {A : Type 0} (R : Semiring A) (p : ℕ) → natural 
 series-characteristic R p c = sym (map-natural (constants R) p) ∙ ap (constants R .map) c ∙ constants R .map-𝟘
 
 module _ {A : Type 0} (R : Semiring A) {p : ℕ} (P : Prime p) (c : natural R p ≡ R .𝟘) where
-  open Semiring R using (𝟘, _⊕_, _⊗_)
+  open Semiring R using (𝟘, _⊕_)
 
   natural-multiple : (m : ℕ) → p ∣ m → natural R m ≡ 𝟘
   natural-multiple m d = rw (← mul-div-cancel' p d, natural-* R, c, 𝟘-⊗ R)

@@ -1,10 +1,10 @@
 -- Graeffe's step in two variables: Q(x, y) Q(-x, y) is V(x², y), in every characteristic. Assumes nothing.
 --
---   squared R a           a(x², y)
+--   squared R a           a(x², y); `squaring R` is the homomorphism
 --   opposite R N a        a(-x, y)
 --   evenPart a            the even powers of x, x for x²
 --   graeffe R N Q         V: the even part of Q(x, y) Q(-x, y)
---   squared-at opposite-at    their coefficients in y
+--   squared-at opposite-at graeffe-at   their coefficients in y
 --   squared-graeffe       V(x², y) is Q(x, y) Q(-x, y)
 --   graeffe-0             V has constant term 𝟙 in y if Q has
 --   opposite-degree graeffe-degree   the degree in y of Q(-x, y) is that of Q, the degree of V twice that

@@ -1,7 +1,7 @@
 -- Homomorphisms of semirings. Assumes nothing.
 --
 --   Homomorphism R S      a map that keeps 𝟘, 𝟙, sums and products
---   map-power map-sum map-neg   it keeps powers, finite sums and negation
+--   map-power map-sum map-neg map-cond   it keeps powers, finite sums, negation, and 𝟘 in place of a value
 --   composite ψ φ         ψ after φ
 --   constants R           the embedding of R into the series over R
 --   constant-𝟘 constant-⊕ constant-⊗   constants of 𝟘, of sums and of products
@@ -12,6 +12,7 @@
 --                         its coefficients, and its values at constants, at shifts and at x
 --   map-⊠                 φ at a coefficient of a product of series
 use Prim.Native.Nat.{ℕ, zero, suc}
+use mathlib.Core.Bool.{Bool, true, false, cond}
 use mathlib.Core.Path.{_≡_, refl, sym, fun-ext, _∙_}
 use Rattle.algebra.specs.Negation.{Negation, neg-unique}
 use Rattle.algebra.specs.Power.{power, power-0, power-suc}
@@ -58,6 +59,10 @@ module _ {A B : Type 0} {R : Semiring A} {S : Semiring B} (φ : Homomorphism R S
 
   pub map-neg : (N : Negation R) (M : Negation S) (a : A) → map (N .neg a) ≡ M .neg (map a)
   map-neg N M a = neg-unique S M (map a) (map (N .neg a)) (rw (← map-⊕ a (N .neg a), N .⊕-neg) map-𝟘)
+
+  pub map-cond : (b : Bool) (a : A) → map (cond b a (R .𝟘)) ≡ cond b (map a) (S .𝟘)
+  map-cond true a = refl
+  map-cond false a = map-𝟘
 
   pub coefficients : Series A → Series B
   coefficients a k = map (a k)

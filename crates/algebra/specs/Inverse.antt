@@ -91,7 +91,8 @@ module _ {p : ℕ} (l : 0 < p) (above : 1 < p) where
 
   pub reversion-none : (n : ℕ) (g h : List ℕ) → 0 < n → exceeds p g ≡ false → irreversible n g ≡ true → Reversion p n g h → ⊥
   reversion-none zero g h b e i r = omega arith
-  reversion-none (suc n) g h b e i r = linear n (irreversible-linear (suc n) g i (zero-of g e 0 (reverse-constant (residues l) reverse))) reverse
+  reversion-none (suc n) g h b e i r =
+      linear n (irreversible-linear (suc n) g i (zero-of g e 0 (reverse-constant (residues l) reverse))) reverse
     where
       reverse : Reverse (residues l) (suc n) (series-of l g) (series-of l h)
       reverse = reversion-reverse g h r

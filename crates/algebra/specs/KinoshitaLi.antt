@@ -1,7 +1,7 @@
 -- Route 4, Kinoshita and Li, as laws of series in x and y: P/Q by halving the order in x. Assumes nothing.
 --
--- P is a series in y alone, Q a series in x and y with constant term 𝟙 in y, V the even part of Q(x, y) Q(-x, y). r is the order in x. Only
--- powers of y below m matter, and of these Q has none above q.
+-- P is a series in y alone, Q a series in x and y with constant term 𝟙 in y, V the even part of Q(x, y) Q(-x, y). r is the order in x.
+-- Only powers of y below m matter, and of these Q has none above q.
 --
 --   fraction R N P Q      P/Q
 --   fraction-graeffe      P/Q is (P/V)(x², y) Q(-x, y)

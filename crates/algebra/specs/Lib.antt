@@ -2,7 +2,7 @@
 -- for the natural numbers, for the residues modulo p, for series over these, and for series over series.
 --
 -- Structures
---   Semiring Negation Power Sum Natural Domain   commutative semirings, negation, powers, finite sums, numbers in a semiring, no zero divisors
+--   Semiring Negation Power Sum Natural Domain   commutative semirings, negation, powers, finite sums, numbers, no zero divisors
 --   Homomorphism Evaluate                        homomorphisms; the value of a polynomial, Horner's rule, appended lists
 -- Series
 --   Series Agree Cut                             series are again a semiring; agreement below n; windows, degrees, cuts
@@ -17,7 +17,8 @@
 --   Taylor Vanishing Valuation                   powers of (z - c), and when a value vanishes below n
 --   Reversion                                    the reverse series: unique, from both sides, and the Newton step
 -- The bridge to the definitions
---   Lists Bounded Bridge Composition Inverse     tables; places below p; lists as series over the residues; the laws of composition and of reversion on lists
+--   Lists Bounded Bridge                         tables; places below p; lists as series over the residues
+--   Composition Inverse                          the laws of composition and of reversion on lists
 --   Rows PlaneBridge                             lists in rows; these as series in two variables over the residues
 --   Halvings KinoshitaLiLists                    the number of halvings; route 4 on lists
 pub mod Semiring

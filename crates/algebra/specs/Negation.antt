@@ -5,12 +5,13 @@
 --   ⊕-neg-cancel neg-⊕-cancel   a ⊕ (neg a ⊕ b) and neg a ⊕ (a ⊕ b) are b
 --   ⊕-cancel              b is c if a ⊕ b is a ⊕ c
 --   neg-unique            b is neg a if a ⊕ b is 𝟘
+--   add-difference        b ⊕ (a ⊕ neg b) is a
 --   equal-by-difference   a is b if a ⊕ neg b is 𝟘
 --   neg-𝟘 neg-neg neg-⊕   negation is an involution that keeps sums
 --   neg-⊗ ⊗-neg           a sign moves out of a product
 --   signed                the set of these laws: `simp (ring, signed)` also cancels a beside neg a
 use mathlib.Core.Path.{_≡_, sym, ap, _∙_}
-use Rattle.algebra.specs.Semiring.{Semiring, ⊕-assoc, ⊕-comm, 𝟘-⊕, 𝟘-⊗, ⊕-⊗, ⊗-comm, ⊕-interchange}
+use Rattle.algebra.specs.Semiring.{Semiring, ⊕-𝟘, ⊕-left-comm, ⊕-assoc, ⊕-comm, 𝟘-⊕, 𝟘-⊗, ⊕-⊗, ⊗-comm, ⊕-interchange}
 
 pub record Negation {A : Type 0} (R : Semiring A) : Type 0 where
   pub neg : A → A
@@ -38,8 +39,11 @@ module _ {A : Type 0} (R : Semiring A) (N : Negation R) where
   pub neg-unique : (a b : A) → a ⊕ b ≡ 𝟘 → b ≡ neg a
   neg-unique a b h = ⊕-cancel a (h ∙ sym (⊕-neg a))
 
+  pub add-difference : (a b : A) → b ⊕ (a ⊕ neg b) ≡ a
+  add-difference a b = rw (⊕-left-comm, ⊕-neg, ⊕-𝟘)
+
   pub equal-by-difference : (a b : A) → a ⊕ neg b ≡ 𝟘 → a ≡ b
-  equal-by-difference a b h = ⊕-cancel (neg b) (⊕-comm R (neg b) a ∙ h ∙ sym (neg-⊕-self b))
+  equal-by-difference a b h = sym (add-difference a b) ∙ rw (h, ⊕-𝟘)
 
   pub neg-𝟘 : neg 𝟘 ≡ 𝟘
   neg-𝟘 = sym (𝟘-⊕ R (neg 𝟘)) ∙ ⊕-neg 𝟘

@@ -61,7 +61,7 @@ module _ {p : ℕ} (l : 0 < p) where
       omega (arith, partCount-below (length f) j c .0 b, ceilDiv-covers l (length f), mul-comm p c)))
 
   module _ {B : Type 0} {S : Semiring B} (φ : Homomorphism naturals S) (s : B) where
-    open Semiring S using (𝟘, _⊕_, _⊗_)
+    open Semiring S using (𝟘, _⊗_)
 
     part-beyond : (j : ℕ) (f : List ℕ) (t : B) → length f ≤ j → evaluate φ (part p j f) t ≡ 𝟘
     unfolding coefficient

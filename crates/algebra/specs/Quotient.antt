@@ -1,17 +1,19 @@
--- The quotient of two series, the second with constant term 𝟙. Assumes nothing.
+-- The quotient of two series by recursion; it is their quotient where the second has constant term 𝟙. Assumes nothing.
 --
 -- ⊕ and ⊗ are the operations of the coefficients, ⊠ is the product of series.
 --
 --   quotient R N P Q      P/Q: its constant term is P_0, its tail is (tail P - P_0 tail Q)/Q
 --   quotient-0 quotient-suc   these two equations
 --   quotient-next         coefficient k of P/Q from those before it: P_k - (Q_k U_0 + .. + Q_1 U_(k-1)), U = P/Q
+--   quotient-respects     a relation that the operations of the coefficients respect is kept by quotients
+--   agree-quotient        quotients of series that agree below n agree below n
+--   quotient-map          a homomorphism applied to each coefficient keeps quotients
+--
+-- For Q with constant term 𝟙:
 --   quotient-⊠            (P/Q) ⊠ Q is P
 --   ⊠-quotient            (U ⊠ Q)/Q is U
 --   quotient-unique       U is P/Q if U ⊠ Q is P
---   quotient-respects     a relation that the operations of the coefficients respect is kept by quotients
---   agree-quotient        quotients of series that agree below n agree below n
 --   ⊠-cancel              U and W agree below n if U ⊠ Q and W ⊠ Q do
---   quotient-map          a homomorphism applied to each coefficient keeps quotients
 use Prim.Native.Nat.{ℕ, zero, suc, _-_, _<_}
 use mathlib.Core.Path.{_≡_, refl, sym, ap, fun-ext, _∙_}
 use native.Mathlib.Nat.{sub-zero, suc-sub-suc}
@@ -24,7 +26,7 @@ use Rattle.algebra.specs.Series.{Series, series, tail, ⊠-0, ⊠-suc}
 use Rattle.algebra.specs.Sum.{sum, sum-0, sum-first}
 
 module _ {A : Type 0} (R : Semiring A) (N : Negation R) where
-  open Semiring R using (𝟘, 𝟙, _⊕_, _⊗_)
+  open Semiring R using (𝟙, _⊕_, _⊗_)
   open Negation N using (neg)
   open Semiring (series R) using (_⊗_ as _⊠_)
 

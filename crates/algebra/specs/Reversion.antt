@@ -52,8 +52,8 @@ use Rattle.algebra.specs.Derivative.{
 }
 use Rattle.algebra.specs.Evaluate.{evaluate, polynomial}
 use Rattle.algebra.specs.Homomorphism.{Homomorphism, coefficients, composite, constants}
-use Rattle.algebra.specs.Negation.{Negation, equal-by-difference, neg-⊕, ⊕-cancel, ⊕-neg, ⊕-neg-cancel, ⊗-neg}
-use Rattle.algebra.specs.Semiring.{Semiring, 𝟘-⊕, ⊕-𝟘, 𝟘-⊗, ⊗-𝟘, 𝟙-⊗, ⊗-𝟙, ⊕-assoc, ⊕-left-comm, ⊗-assoc, ⊗-comm, ⊗-left-comm, ⊗-⊕}
+use Rattle.algebra.specs.Negation.{Negation, add-difference, equal-by-difference, neg-⊕, ⊕-cancel, ⊕-neg-cancel, ⊗-neg}
+use Rattle.algebra.specs.Semiring.{Semiring, 𝟘-⊕, ⊕-𝟘, 𝟘-⊗, ⊗-𝟘, 𝟙-⊗, ⊗-𝟙, ⊕-assoc, ⊗-assoc, ⊗-comm, ⊗-left-comm, ⊗-⊕}
 use Rattle.algebra.specs.Series.{
   Series,
   constant,
@@ -164,9 +164,6 @@ module _ {A : Type 0} (R : Semiring A) where
   module _ (N : Negation R) where
     open Negation (series-negation R N) using (neg)
 
-    add-difference : (a b : Series A) → b ⊞ (a ⊞ neg b) ≡ a
-    add-difference a b = rw (⊕-left-comm, ⊕-neg (series R) (series-negation R N), ⊕-𝟘)
-
     module _ (g h k : Series A) (c : A) (unit : c ⊗ g 1 ≡ 𝟙) (h-0 : h 0 ≡ 𝟘) (k-0 : k 0 ≡ 𝟘) where
       injective-at : {n : ℕ} → Agree (suc n) h k
           → substitute R g h (suc n) ≡ substitute R g k (suc n) → h (suc n) ≡ k (suc n)
@@ -181,7 +178,7 @@ module _ {A : Type 0} (R : Semiring A) where
           multiple =
               ⊕-cancel R N (substitute R g k (suc n))
               (sym (substitute-lowest g k k-0 (agree-difference R N a))
-              ∙ rw (add-difference h k, e, ⊕-𝟘))
+              ∙ rw (add-difference (series R) (series-negation R N) h k, e, ⊕-𝟘))
 
       pub substitute-injective : (n : ℕ) → Agree n (substitute R g h) (substitute R g k)
           → Agree n h k
@@ -239,7 +236,7 @@ module _ {A : Type 0} (R : Semiring A) where
               ⊗-left-comm (series R) (substitute R (derivative R g) h) e,
               ← derivative-substitute R h (r .no-constant) g,
             )
-            (ap (λ t. t ⊞ neg (e ⊠ derivative R t)) (sym (add-difference _ (indeterminate R)))
+            (ap (λ t. t ⊞ neg (e ⊠ derivative R t)) (sym (add-difference (series R) (series-negation R N) _ (indeterminate R)))
             ∙ newton-error e)
 
     pub newton-cut : {k m : ℕ} {g h s t : Series A} → Reverse R (suc k) g h → m ≤ k + suc k

@@ -14,7 +14,7 @@
 --   𝟘-at 𝟙-constant ⊞-at neg-at sum-at   coefficients of 𝟘, 𝟙, sums, negations, finite sums
 --   ⊠-0 ⊠-suc                 coefficients of a product, by recursion on the place
 --   ⊠-at                      coefficient k of a product is the sum of a_i b_(k-i) over i ≤ k
---   constant-0 constant-suc tail-constant   coefficients and tail of a constant
+--   constant-0 constant-suc constant-above tail-constant   coefficients and tail of a constant
 --   constant-⊠-at             coefficients of a constant times a series
 --   shift-0 shift-suc tail-shift   coefficients and tail of a shift
 --   shift-⊠                   a shift moves out of a product
@@ -173,6 +173,10 @@ module _ {A : Type 0} (R : Semiring A) where
   pub constant-suc : (c : A) (k : ℕ) → constant c (suc k) ≡ 𝟘
   unfolding constant
   constant-suc c k = refl
+
+  pub constant-above : (c : A) (k : ℕ) → 0 < k → constant c k ≡ 𝟘
+  constant-above c zero l = absurd (omega arith)
+  constant-above c (suc k) l = constant-suc c k
 
   pub tail-constant : (c : A) → tail (constant c) ≡ constant 𝟘
   tail-constant c = equal-by-tail

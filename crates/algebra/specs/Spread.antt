@@ -11,7 +11,7 @@
 --   power-spread        where the prime p is 𝟘, the p-th power of a series is the spread series of the p-th powers
 --   residues-power-spread   g(x)^p is g(x^p) modulo p
 use Prim.Native.Nat.{ℕ, zero, suc, _+_, _/_, _%_, _<_}
-use mathlib.Core.Bool.{cond, true, false, Bool}
+use mathlib.Core.Bool.{cond}
 use mathlib.Core.Path.{_≡_, refl, ap, fun-ext, _∙_}
 use lib.Dec.{eqb, eqb·suc-zero}
 use native.Mathlib.Decide.{decLt}
@@ -21,7 +21,7 @@ use native.Mathlib.Omega.{arith}
 use Rattle.algebra.specs.Agree.{Agree}
 use Rattle.algebra.specs.Fermat.{fermat-residue}
 use Rattle.algebra.specs.Frobenius.{frobenius-⊕, series-characteristic}
-use Rattle.algebra.specs.Homomorphism.{Homomorphism, coefficients, coefficients-at, constants, constant-𝟘, map-power}
+use Rattle.algebra.specs.Homomorphism.{Homomorphism, coefficients, coefficients-at, constants, constant-𝟘, map-cond, map-power}
 use Rattle.algebra.specs.Lists.{ceilDiv-below}
 use Rattle.algebra.specs.Natural.{natural}
 use Rattle.algebra.specs.Power.{power, power-⊗}
@@ -34,6 +34,7 @@ use Rattle.algebra.specs.Series.{
   constant,
   constant-0,
   constant-suc,
+  constant-above,
   indeterminate,
   decompose,
   𝟙-constant,
@@ -54,7 +55,7 @@ use Rattle.definition.specs.Lists.{ceilDiv}
 use Rattle.definition.specs.Prime.{Prime}
 
 module _ {A : Type 0} (R : Semiring A) (p : ℕ) where
-  open Semiring R using (𝟘, 𝟙, _⊕_, _⊗_)
+  open Semiring R using (𝟘, 𝟙)
   open Semiring (series R) using (_⊕_ as _⊞_, _⊗_ as _⊠_)
 
   infixl 50 _⊞_
@@ -82,10 +83,6 @@ module _ {A : Type 0} (R : Semiring A) (p : ℕ) where
     spread-high : (a : Series A) (k : ℕ) → spread a (p + k) ≡ spread (tail a) k
     spread-high a k = rw (spread-at, spread-at, add-mod-left, add-div-left k l, add-one)
 
-    constant-high : (c : A) (k : ℕ) → 0 < k → constant R c k ≡ 𝟘
-    constant-high c zero u = absurd (omega arith)
-    constant-high c (suc k) u = constant-suc R c k
-
     pub spread-horner : (a : Series A) → spread a ≡ constant R (a 0) ⊞ x^p ⊠ spread (tail a)
     spread-horner a = fun-ext λ k. at k (decLt k p)
       where
@@ -93,7 +90,7 @@ module _ {A : Type 0} (R : Semiring A) (p : ℕ) where
         at k (yes u) = rw (⊞-at R, power-⊠-below R p (spread (tail a)) k u, ⊕-𝟘 R) (spread-low a k u)
         at k (no u) =
             let (j, e) = le-dest {n = p} {m = k} (omega arith) in
-            rw (← e, ⊞-at R, power-⊠-above R p (spread (tail a)) j, constant-high (a 0) (p + j) (omega arith), 𝟘-⊕ R)
+            rw (← e, ⊞-at R, power-⊠-above R p (spread (tail a)) j, constant-above R (a 0) (p + j) (omega arith), 𝟘-⊕ R)
             (spread-high a j)
 
     x^p-0 : x^p 0 ≡ 𝟘
@@ -136,12 +133,8 @@ spread-naturals p a = refl
 
 pub coefficients-spread : {A B : Type 0} {R : Semiring A} {S : Semiring B} (φ : Homomorphism R S) (p : ℕ) (a : Series A)
     → coefficients φ (spread R p a) ≡ spread S p (coefficients φ a)
-coefficients-spread {A} {R} {S} φ p a = fun-ext λ k.
-    rw (coefficients-at φ, spread-at R, spread-at S, coefficients-at φ) (at (eqb (k % p) 0) (a (k / p)))
-  where
-    at : (b : Bool) (x : A) → φ .map (cond b x (R .𝟘)) ≡ cond b (φ .map x) (S .𝟘)
-    at true x = refl
-    at false x = φ .map-𝟘
+coefficients-spread {R} {S} φ p a = fun-ext λ k.
+    rw (coefficients-at φ, spread-at R, spread-at S, coefficients-at φ) (map-cond φ (eqb (k % p) 0) (a (k / p)))
 
 pub residues-power-spread : {p : ℕ} (l : 0 < p) → Prime p → (g : Series (Residue p))
     → power (series (residues l)) g p ≡ spread (residues l) p g

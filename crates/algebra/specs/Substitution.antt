@@ -1,6 +1,6 @@
 -- Substitution of a series without constant term into a series. Assumes nothing.
 --
---   partial-sum R a u n       the sum of a_i u^i over i < n
+--   partial-sum R a u n       the sum of a_i u^i over i < n; `partial-sum-at` gives its coefficients
 --   substitute R a u          a(u): coefficient k is that of the sum of a_i u^i over i ≤ k
 --   partial-sum-suc           Horner's rule: a_0 plus u times the partial sum of the tail
 --   substitute-⊞              substitution into a sum of two series
@@ -67,6 +67,7 @@ use Rattle.algebra.specs.Series.{
   indeterminate,
   indeterminate-0,
   decompose,
+  sum-at,
   ⊞-at,
   ⊠-0,
   𝟙-constant,
@@ -81,11 +82,16 @@ use Rattle.algebra.specs.Sum.{sum, sum-first, sum-⊕, ⊗-sum}
 module _ {A : Type 0} (R : Semiring A) where
   infixl 50 _⊞_
   infixl 60 _⊠_
-  open Semiring R using (𝟘, 𝟙)
+  open Semiring R using (𝟘, 𝟙, _⊗_)
   open Semiring (series R) using (_⊕_ as _⊞_, _⊗_ as _⊠_)
 
-  pub partial-sum : Series A → Series A → ℕ → Series A
+  unfoldable pub partial-sum : Series A → Series A → ℕ → Series A
   partial-sum a u n = sum (series R) n (λ i. constant R (a i) ⊠ power (series R) u i)
+
+  pub partial-sum-at : (a u : Series A) (n k : ℕ)
+      → partial-sum a u n k ≡ sum R n (λ i. a i ⊗ power (series R) u i k)
+  unfolding partial-sum
+  partial-sum-at a u n k = rw sum-at (simp constant-⊠-at)
 
   pub substitute : Series A → Series A → Series A
   substitute a u k = partial-sum a u (suc k) k

@@ -21,7 +21,7 @@ use Rattle.definition.specs.Lists.{coefficient}
 use Rattle.definition.specs.Taylor.{binomial, shifted, shiftedTerm}
 
 module _ {B : Type 0} {S : Semiring B} (φ : Homomorphism naturals S) (f : List ℕ) (c : ℕ) where
-  open Semiring S using (𝟘, _⊕_, _⊗_)
+  open Semiring S using (_⊕_, _⊗_)
 
   map-term : (i j : ℕ) → φ .map (shiftedTerm f c i j)
       ≡ φ .map (coefficient f j) ⊗ (power S (φ .map c) (j - i) ⊗ natural S (binomial j i))

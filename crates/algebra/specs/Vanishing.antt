@@ -3,10 +3,8 @@
 --
 --   ⊠-lowest            the first coefficient of a product
 --   power-lowest        the first coefficient of a power
---   combination R m d u the sum of d_i u^i over i < m
---   combination-at      its coefficients
---   vanishing           when a combination vanishes below n
---   agreement           when two combinations agree below n
+--   vanishing           when the sum of d_i u^i over i < m vanishes below n
+--   agreement           when two such sums agree below n
 --   taylor-agreement    when f(c + u) and h(c + u) agree below n: when f and h have the same coefficients i in powers of (z - c),
 --                       for all i with i v < n
 use Prim.Native.Nat.{ℕ, zero, suc, _+_, _-_, _*_, _<_, _≤_}
@@ -21,19 +19,19 @@ use Rattle.algebra.specs.Agree.{Agree, Vanish, vanish-power}
 use Rattle.algebra.specs.Domain.{NoZeroDivisors, power-nonzero}
 use Rattle.algebra.specs.Evaluate.{evaluate}
 use Rattle.algebra.specs.Homomorphism.{Homomorphism, composite, constants}
-use Rattle.algebra.specs.Negation.{Negation, ⊕-neg, ⊕-cancel}
+use Rattle.algebra.specs.Negation.{Negation, add-difference, ⊕-cancel}
 use Rattle.algebra.specs.Power.{power, power-0, power-suc}
-use Rattle.algebra.specs.Semiring.{Semiring, naturals, ⊕-left-comm, ⊕-𝟘, 𝟘-⊗, ⊗-𝟘, ⊗-𝟙, ⊗-comm, ⊕-⊗}
-use Rattle.algebra.specs.Series.{Series, series, constant, constant-⊠-at, ⊠-at, 𝟙-constant, constant-0, sum-at}
-use Rattle.algebra.specs.Sum.{sum, sum-𝟘, sum-cong, sum-single, sum-⊕}
+use Rattle.algebra.specs.Semiring.{Semiring, naturals, ⊕-𝟘, 𝟘-⊗, ⊗-𝟘, ⊗-𝟙, ⊗-comm, ⊕-⊗}
+use Rattle.algebra.specs.Series.{Series, series, ⊠-at, 𝟙-constant, constant-0}
+use Rattle.algebra.specs.Substitution.{partial-sum, partial-sum-at}
+use Rattle.algebra.specs.Sum.{sum-𝟘, sum-cong, sum-single, sum-⊕}
 use Rattle.algebra.specs.Taylor.{taylor}
 use Rattle.definition.specs.Taylor.{shifted}
 
 module _ {A : Type 0} (R : Semiring A) where
   open Semiring R using (𝟘, 𝟙, _⊕_, _⊗_)
-  open Semiring (series R) using (_⊕_ as _⊞_, _⊗_ as _⊠_)
+  open Semiring (series R) using (_⊗_ as _⊠_)
 
-  infixl 50 _⊞_
   infixl 60 _⊠_
   pub ⊠-lowest : (i j : ℕ) {a b : Series A} → Vanish R i a → Vanish R j b → (a ⊠ b) (i + j) ≡ a i ⊗ b j
   ⊠-lowest i j {a} {b} va vb =
@@ -51,13 +49,6 @@ module _ {A : Type 0} (R : Semiring A) where
       rw (suc-mul, add-comm (i * v) v, power-suc (series R), power-suc R, ← power-lowest v h i)
       (⊠-lowest v (i * v) h (vanish-power R v i h))
 
-  abbrev pub combination : ℕ → (ℕ → A) → Series A → Series A
-  combination m d u = sum (series R) m (λ i. constant R (d i) ⊠ power (series R) u i)
-
-  pub combination-at : (m : ℕ) (d : ℕ → A) (u : Series A) (k : ℕ)
-      → combination m d u k ≡ sum R m (λ i. d i ⊗ power (series R) u i k)
-  combination-at m d u k = rw (sum-at R) (simp (constant-⊠-at R))
-
   module _ (domain : NoZeroDivisors R) {n v : ℕ} (u : Series A)
       (l : 0 < v) (low : Vanish R v u) (first : v < n → u v ≢ 𝟘) (m : ℕ) where
     cancel : (i : ℕ) → i * v < n → (a : A) → a ⊗ power R (u v) i ≡ 𝟘 → a ≡ 𝟘
@@ -66,11 +57,11 @@ module _ {A : Type 0} (R : Semiring A) where
         domain (power R (u v) (suc i)) a (power-nonzero R domain (u v) (first (omega (arith, suc-mul i v))) (suc i))
         (⊗-comm R (power R (u v) (suc i)) a ∙ e)
 
-    -- coefficient i v of the combination is d_i (u_v)^i if the coefficients before d_i are 𝟘
+    -- coefficient i v of the sum is d_i (u_v)^i if the coefficients before d_i are 𝟘
     coefficient-lowest : (d : ℕ → A) (i : ℕ) → i < m → ((j : ℕ) → j < i → d j ≡ 𝟘)
-        → combination m d u (i * v) ≡ d i ⊗ power R (u v) i
+        → partial-sum R d u m (i * v) ≡ d i ⊗ power R (u v) i
     coefficient-lowest d i s before =
-        combination-at m d u (i * v)
+        partial-sum-at R d u m (i * v)
         ∙ sum-single R m i (λ j. d j ⊗ power (series R) u j (i * v)) s (λ j t z. other j z (decLt j i))
         ∙ ap (λ w. d i ⊗ w) (power-lowest v low i)
       where
@@ -78,7 +69,7 @@ module _ {A : Type 0} (R : Semiring A) where
         other j z (yes w) = rw (before j w, 𝟘-⊗ R)
         other j z (no w) = rw (vanish-power R v j low (i * v) (mul-lt-mul-of-pos-right (omega arith) l), ⊗-𝟘 R)
 
-    vanishing-below : (d : ℕ → A) → Vanish R n (combination m d u)
+    vanishing-below : (d : ℕ → A) → Vanish R n (partial-sum R d u m)
         → (bound i : ℕ) → i < bound → i < m → i * v < n → d i ≡ 𝟘
     vanishing-below d h zero i c s b = absurd (omega arith)
     vanishing-below d h (suc bound) i c s b =
@@ -86,10 +77,10 @@ module _ {A : Type 0} (R : Semiring A) where
         vanishing-below d h bound j (omega arith) (omega arith) (omega (arith, mul-le-mul-right v (le-of-lt w)))))
         ∙ h (i * v) b)
 
-    pub vanishing : (d : ℕ → A) → Vanish R n (combination m d u) ↔ ((i : ℕ) → i < m → i * v < n → d i ≡ 𝟘)
+    pub vanishing : (d : ℕ → A) → Vanish R n (partial-sum R d u m) ↔ ((i : ℕ) → i < m → i * v < n → d i ≡ 𝟘)
     vanishing d = (
       (λ h i. vanishing-below d h (suc i) i (omega arith)),
-      (λ h k b. combination-at m d u k ∙ sum-𝟘 R m _ (λ i s. at h k b i s (decLt (i * v) n))),
+      (λ h k b. partial-sum-at R d u m k ∙ sum-𝟘 R m _ (λ i s. at h k b i s (decLt (i * v) n))),
     )
       where
         at : ((i : ℕ) → i < m → i * v < n → d i ≡ 𝟘) → (k : ℕ) → k < n
@@ -103,7 +94,7 @@ module _ {A : Type 0} (R : Semiring A) where
       excess {b} e = ((λ h. ⊕-cancel R N b (sym e ∙ h ∙ sym (⊕-𝟘 R b))), (λ h. e ∙ rw (h, ⊕-𝟘 R)))
 
       pub agreement : (a b : ℕ → A)
-          → Agree n (combination m a u) (combination m b u) ↔ ((i : ℕ) → i < m → i * v < n → a i ≡ b i)
+          → Agree n (partial-sum R a u m) (partial-sum R b u m) ↔ ((i : ℕ) → i < m → i * v < n → a i ≡ b i)
       agreement a b = (
         (λ h i s t. excess (split i) .1 (vanishing difference .0 (λ k c. excess (split-at k) .0 (h k c)) i s t)),
         (λ h k c. excess (split-at k) .1 (vanishing difference .1 (λ i s t. excess (split i) .0 (h i s t)) k c)),
@@ -113,11 +104,11 @@ module _ {A : Type 0} (R : Semiring A) where
           difference i = a i ⊕ N .neg (b i)
 
           split : (i : ℕ) → a i ≡ b i ⊕ difference i
-          split i = sym (⊕-left-comm R (b i) (a i) (N .neg (b i)) ∙ rw (⊕-neg R N, ⊕-𝟘 R))
+          split i = sym (add-difference R N (a i) (b i))
 
-          split-at : (k : ℕ) → combination m a u k ≡ combination m b u k ⊕ combination m difference u k
+          split-at : (k : ℕ) → partial-sum R a u m k ≡ partial-sum R b u m k ⊕ partial-sum R difference u m k
           split-at k =
-              rw (combination-at m a u k, combination-at m b u k, combination-at m difference u k, ← sum-⊕ R)
+              rw (partial-sum-at R a u m k, partial-sum-at R b u m k, partial-sum-at R difference u m k, ← sum-⊕ R)
               (sum-cong R m _ _ (λ i s. ap (λ w. w ⊗ power (series R) u i k) (split i) ∙ ⊕-⊗ R (b i) (difference i) _))
 
 module _ {A : Type 0} (R : Semiring A) (N : Negation R) (domain : NoZeroDivisors R) (φ : Homomorphism naturals R) (c : ℕ)
@@ -130,6 +121,7 @@ module _ {A : Type 0} (R : Semiring A) (N : Negation R) (domain : NoZeroDivisors
   pub taylor-agreement : (f h : List ℕ)
       → Agree n (evaluate ψ f (ψ .map c ⊞ u)) (evaluate ψ h (ψ .map c ⊞ u))
       ↔ ((i : ℕ) → i * v < n → φ .map (shifted f c i) ≡ φ .map (shifted h c i))
+  unfolding partial-sum
   taylor-agreement f h = (
     (λ e i. rule (length f + length h + suc i) (omega arith) (omega arith) .0 e i (omega arith)),
     (λ e. rule (length f + length h) (omega arith) (omega arith) .1 (λ i s. e i)),
