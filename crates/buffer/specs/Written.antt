@@ -1,0 +1,128 @@
+-- Lists written into lists. `sets l i vs` (of lib.Seq) is l with vs written from place i on; as prefix, new part and suffix it is `sets-eq` there.
+--
+--   sets-set            a first place written before the rest: set, then sets, in either order
+--   sets-append         two writes side by side are one
+--   sets-snoc           one place more
+--   sets-take           one place more of a list that is copied place by place
+--   sets-comm           two writes apart may change places
+--   sets-cover          a write over an earlier one, which it covers
+--   getD-sets-before, getD-sets-after, getD-sets-inside   a place read after a write
+--   take-sets, drop-sets        the parts before and after a write
+--   take-sets-inside, drop-sets-inside   a write within the part that is kept
+--   part-sets           the part that was written
+--   sets-part           a part lent from place i on and come back as vs
+--   sets-front          a part lent from place 0 on and come back as vs
+--   sets-within         a write within a part lent from place i on
+--   sets-whole          a write over the whole list
+--   cleared-sets        cleared as a write of zeros
+--   length-cleared      clearing keeps the length
+--   cleared-written     clearing what was written clears what was there before
+--   cleared-cleared     clearing twice
+-- Assumes nothing.
+use Prim.Native.Nat.{ℕ, zero, suc, _+_, _-_, _<_, _≤_}
+use native.Mathlib.Nat.{add-zero, zero-add, add-suc, suc-add}
+use native.Mathlib.Numerals.{add-one}
+use native.Mathlib.Omega.{arith}
+use mathlib.Core.Path.{_≡_, refl, sym, ap, _∙_}
+use mathlib.Core.List.{List, [], _∷_, _++_, append-assoc, append-nil}
+use lib.ListN.{length, getD, take, drop, set, replicate, length-set, length-append, length-take, length-drop, length-replicate, take-append-drop}
+use lib.Seq.{sets, sets-eq, length-sets, set-comm, set-set, take-set-le, drop-set-lt, take-set-lt, drop-set-add, getD-set-other, drop-drop, drop-at, length-take-le, take-append-seam, getD-drop, getD-take, drop-length, take-suc}
+use Rattle.definition.specs.Answer.{cleared}
+
+module _ {A : Type 0} where
+  pub sets-set : (l : List A) (i j : ℕ) (a : A) (vs : List A) → i < j → sets (set l i a) j vs ≡ set (sets l j vs) i a
+  sets-set l i j a [] h = refl
+  sets-set l i j a (v ∷ vs) h =
+      rw (set-comm l i j a v (λ e. omega arith)) (sets-set (set l j v) i (suc j) a vs (omega arith))
+
+  pub sets-append : (l : List A) (i : ℕ) (us vs : List A) → sets l i (us ++ vs) ≡ sets (sets l i us) (i + length us) vs
+  sets-append l i [] vs = rw add-zero
+  sets-append l i (u ∷ us) vs = rw (add-suc, ← suc-add) (sets-append (set l i u) (suc i) us vs)
+
+  pub sets-snoc : (l : List A) (i : ℕ) (vs : List A) (a : A) → set (sets l i vs) (i + length vs) a ≡ sets l i (vs ++ (a ∷ []))
+  sets-snoc l i vs a = sym (sets-append l i vs (a ∷ []))
+
+  pub sets-comm : (l : List A) (i j : ℕ) (us vs : List A) → i + length us ≤ j → sets (sets l i us) j vs ≡ sets (sets l j vs) i us
+  sets-comm l i j [] vs h = refl
+  sets-comm l i j (u ∷ us) vs h =
+      let h′ : suc i + length us ≤ j = rw suc-add (rw add-suc at h) in
+      sets-comm (set l i u) (suc i) j us vs h′ ∙ ap (λ (r : List A). sets r (suc i) us) (sets-set l i j u vs (omega arith))
+
+  pub sets-cover : (l : List A) (i : ℕ) (us vs : List A) → length us ≤ length vs → sets (sets l i us) i vs ≡ sets l i vs
+  sets-cover l i [] vs h = refl
+  sets-cover l i (u ∷ us) [] h = absurd (omega arith)
+  sets-cover l i (u ∷ us) (v ∷ vs) h =
+      rw (← sets-set (set l i u) i (suc i) v us (omega arith), set-set) (sets-cover (set l i v) (suc i) us vs (omega arith))
+
+  pub getD-sets-before : (l : List A) (i : ℕ) (vs : List A) (k : ℕ) (d : A) → k < i → getD (sets l i vs) k d ≡ getD l k d
+  getD-sets-before l i [] k d h = refl
+  getD-sets-before l i (v ∷ vs) k d h =
+      getD-sets-before (set l i v) (suc i) vs k d (omega arith) ∙ getD-set-other l i k v d (λ e. omega arith)
+
+  pub getD-sets-after : (l : List A) (i : ℕ) (vs : List A) (k : ℕ) (d : A) → i + length vs ≤ k → getD (sets l i vs) k d ≡ getD l k d
+  getD-sets-after l i [] k d h = refl
+  getD-sets-after l i (v ∷ vs) k d h =
+      getD-sets-after (set l i v) (suc i) vs k d (omega arith) ∙ getD-set-other l i k v d (λ e. omega arith)
+
+  pub take-sets : (l : List A) (i : ℕ) (vs : List A) (k : ℕ) → k ≤ i → take k (sets l i vs) ≡ take k l
+  take-sets l i [] k h = refl
+  take-sets l i (v ∷ vs) k h = take-sets (set l i v) (suc i) vs k (omega arith) ∙ take-set-le k l i v h
+
+  pub drop-sets : (l : List A) (i : ℕ) (vs : List A) (k : ℕ) → i + length vs ≤ k → drop k (sets l i vs) ≡ drop k l
+  drop-sets l i [] k h = refl
+  drop-sets l i (v ∷ vs) k h = drop-sets (set l i v) (suc i) vs k (omega arith) ∙ drop-set-lt k l i v (omega arith)
+
+  pub take-sets-inside : (l : List A) (i : ℕ) (vs : List A) (k : ℕ) → i + length vs ≤ k → take k (sets l i vs) ≡ sets (take k l) i vs
+  take-sets-inside l i [] k h = refl
+  take-sets-inside l i (v ∷ vs) k h =
+      take-sets-inside (set l i v) (suc i) vs k (omega arith) ∙ rw (take-set-lt k l i v (omega arith))
+
+  pub drop-sets-inside : (l : List A) (i : ℕ) (vs : List A) (k : ℕ) → drop k (sets l (k + i) vs) ≡ sets (drop k l) i vs
+  drop-sets-inside l i [] k = refl
+  drop-sets-inside l i (v ∷ vs) k = rw (← add-suc, drop-sets-inside (set l (k + i) v) (suc i) vs k, drop-set-add)
+
+  pub sets-part : (l : List A) (i k : ℕ) (vs : List A) → length vs ≡ k → i + k ≤ length l
+      → take i l ++ (vs ++ drop k (drop i l)) ≡ sets l i vs
+  sets-part l i k vs e h =
+      rw (drop-drop, ← append-assoc, ← e) (sym (sets-eq vs l i (omega arith)))
+
+  pub sets-front : (l : List A) (vs : List A) → length vs ≤ length l → vs ++ drop (length vs) l ≡ sets l 0 vs
+  sets-front l vs h = sets-part l 0 (length vs) vs refl (omega arith)
+
+  pub part-sets : (l : List A) (i : ℕ) (vs : List A) → i + length vs ≤ length l → take (length vs) (drop i (sets l i vs)) ≡ vs
+  part-sets l i vs h =
+      rw (sets-eq vs l i h, append-assoc, drop-at _ _ i (length-take-le i l (omega arith))) (take-append-seam vs _)
+
+  pub getD-sets-inside : (l : List A) (i : ℕ) (vs : List A) (j : ℕ) (d : A) → i + length vs ≤ length l → j < length vs
+      → getD (sets l i vs) (i + j) d ≡ getD vs j d
+  getD-sets-inside l i vs j d h below =
+      rw (← getD-drop, ← getD-take (length vs) (drop i (sets l i vs)) j d below, part-sets l i vs h)
+
+  pub sets-within : (l : List A) (i j : ℕ) (vs : List A) → i ≤ length l → take i l ++ sets (drop i l) j vs ≡ sets l (i + j) vs
+  sets-within l i j vs h =
+      rw (← drop-sets-inside l j vs i, ← take-sets l (i + j) vs i (omega arith)) (take-append-drop i _)
+
+  pub sets-whole : (l vs : List A) → length vs ≡ length l → sets l 0 vs ≡ vs
+  sets-whole l vs e = sym (sets-front l vs (omega arith)) ∙ rw (e, drop-length, append-nil)
+
+  pub sets-take : (l : List A) (i : ℕ) (vs : List A) (j : ℕ) (d : A) → j < length vs
+      → set (sets l i (take j vs)) (i + j) (getD vs j d) ≡ sets l i (take (j + 1) vs)
+  sets-take l i vs j d h =
+      let e : length (take j vs) ≡ j = length-take-le j vs (omega arith) in
+      rw (add-one, take-suc vs j d h, ← sets-snoc, e)
+
+pub cleared-sets : (k : ℕ) (w : List ℕ) → k ≤ length w → cleared k w ≡ sets w 0 (replicate k 0)
+unfolding cleared
+cleared-sets k w h =
+    rw (← sets-front w (replicate k 0) (rw length-replicate h), length-replicate)
+
+pub length-cleared : (k : ℕ) (w : List ℕ) → k ≤ length w → length (cleared k w) ≡ length w
+length-cleared k w h = rw (cleared-sets k w h) (length-sets w 0 (replicate k 0))
+
+pub cleared-written : (k : ℕ) (w : List ℕ) (i : ℕ) (vs : List ℕ) → i + length vs ≤ k → cleared k (sets w i vs) ≡ cleared k w
+unfolding cleared
+cleared-written k w i vs h = rw (drop-sets w i vs k h)
+
+pub cleared-cleared : (j k : ℕ) (w : List ℕ) → j ≤ k → k ≤ length w → cleared k (cleared j w) ≡ cleared k w
+cleared-cleared j k w h b =
+    rw (cleared-sets j w (omega arith)) (cleared-written k w 0 (replicate j 0) (rw length-replicate (omega arith)))

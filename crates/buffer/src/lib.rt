@@ -1,0 +1,58 @@
+// Buffers of 32-bit numbers: clearing, copying, moving, and the test that every number is below a bound.
+ghost use mathlib.Core.Path.{_≡_};
+ghost use mathlib.Core.List.{_++_};
+ghost use Prim.Native.Nat.{_+_, _≤_};
+ghost use lib.ListN.{length, take, drop};
+ghost use lib.Seq.{sets};
+ghost use Rattle.definition.specs.Answer.{cleared};
+ghost use Rattle.definition.specs.Refusal.{exceeds};
+
+// Sets the first `k` places to zero.
+pub fn clear(w: &mut [u32], k: usize)
+    requires { ⌜ k ≤ length (now w) ⌝ }
+    ensures { λ r. ⌜ now (w .exit) ≡ cleared k (now (w .entry)) ⌝ }
+{
+    let mut i = 0;
+    while i < k {
+        w[i] = 0;
+        i += 1;
+    }
+}
+
+// Writes `src` from place 0 of `dst`; later places stay.
+pub fn copy(src: &[u32], dst: &mut [u32])
+    requires { ⌜ length (now src) ≤ length (now dst) ⌝ }
+    ensures { λ r. ⌜ now (dst .exit) ≡ now (src .entry) ++ drop (length (now (src .entry))) (now (dst .entry)) ⌝ }
+{
+    let mut i = 0;
+    while i < src.len() {
+        dst[i] = src[i];
+        i += 1;
+    }
+}
+
+// Writes the `count` places from `from` on at place `to`, which is not above `from`; the two parts may overlap.
+pub fn move_down(w: &mut [u32], from: usize, to: usize, count: usize)
+    requires { ⌜ (to ≤ from) × (from + count ≤ length (now w)) ⌝ }
+    ensures { λ r. ⌜ now (w .exit) ≡ sets (now (w .entry)) to (take count (drop from (now (w .entry)))) ⌝ }
+{
+    let mut i = 0;
+    while i < count {
+        w[to + i] = w[from + i];
+        i += 1;
+    }
+}
+
+// Whether a number of `l` is `p` or more.
+pub fn exceeds(l: &[u32], p: u32) -> bool
+    ensures { λ r. ⌜ r ≡ exceeds p (now (l .entry)) ⌝ }
+{
+    let mut i = 0;
+    while i < l.len() {
+        if p <= l[i] {
+            return true;
+        }
+        i += 1;
+    }
+    false
+}
