@@ -25,7 +25,7 @@ fn remainder(p: u32, high: u64, low: u64) -> u32
 
 // Coefficient k of c + x y modulo p. The sum is exact, its low and high halves kept apart, and the remainder is taken once.
 pub fn coefficient(p: u32, c: u32, x: &[u32], y: &[u32], k: usize) -> u32
-    requires { ⌜ (0 < p) × (k < length (now x)) × (k < length (now y)) × (k < 2 ^ 20) ⌝ }
+    requires { ⌜ (0 < p) × (k < length (now x)) × (k < length (now y)) × (k < 2 ^ 30) ⌝ }
     ensures { λ r. ⌜ r ≡ (c + product (coefficient (now (x .entry))) (coefficient (now (y .entry))) k) % p ⌝ }
 {
     let mut low = wide(c);

@@ -1,84 +1,93 @@
+-- `product::coefficient` meets its contract: the two halves hold c and the terms summed so far. Assumes nothing.
 use borrow.Author.Needs.{needs}
 use native.Mathlib.Omega.{arith}
-use Prim.Native.Nat.{ℕ, _+_, _*_, _-_, _<_, _≤_, _%_}
-use lib.ListN.{length, getD, take, drop, set}
-use mathlib.Core.Path.{_≡_, refl, sym, ap, _∙_}
+use Prim.Native.Nat.{suc, _+_, _*_, _-_, _≤_, _^_}
+use mathlib.Core.Path.{_≡_, _∙_}
+use Rattle.definition.specs.Lists.{coefficient}
+use Rattle.definition.specs.Substitution.{product, productTerm}
+use Rattle.product.specs.Halves.{Halves, small-product, halves-first, halves-next, halves-total, halves-low, halves-high}
 use Rattle.product.proofs.coefficient.Statement.{statement}
 use Rattle.product.proofs.coefficient.Tie as tie
-use Rattle.product.proofs.coefficient.Reads as reads
-use Rattle.product.proofs.coefficient.Lts as lts
-use Rattle.product.proofs.remainder.Reads as remainder-reads
-use Rattle.product.proofs.wide.Reads as wide-reads
 
 abbrev Inv-loop : tie.InvT-loop
-Inv-loop p c x y k low₀ high₀ i₀ low high i = ?
+Inv-loop p c x y k low₀ high₀ i₀ low high i =
+    (i ≤ k + 1) × Halves c (productTerm (coefficient x) (coefficient y) k) i low high
 
 abbrev μ-loop : tie.MeasureT-loop
-μ-loop p c x y k low₀ high₀ i₀ low high i = ?
+μ-loop p c x y k low₀ high₀ i₀ low high i = k + 1 - i
 
--- src/lib.rt:31:9
 wide-requires : tie.Need-wide-requires Inv-loop μ-loop
 wide-requires c κs = search needs
 
--- src/lib.rt:34:5
 loop-holds : tie.Need-loop-holds Inv-loop μ-loop
-loop-holds c = search needs
+loop-holds c = (omega arith, rw (c .wide .ensures) (halves-first (c .before .before .before .fits .c .fits)))
 
--- src/lib.rt:35:22
 mul-wide : tie.Need-mul-wide Inv-loop μ-loop
-mul-wide c = search needs
+mul-wide c = omega (arith, c .before .before .before .before .before .pre)
 
--- src/lib.rt:35:22
 shared-slice-read-wide : tie.Need-shared-slice-read-wide Inv-loop μ-loop
 shared-slice-read-wide c = search needs
 
--- src/lib.rt:35:17
 wide-requires-2 : tie.Need-wide-requires-2 Inv-loop μ-loop
 wide-requires-2 c κs = search needs
 
--- src/lib.rt:35:35
 mul-wide-2 : tie.Need-mul-wide-2 Inv-loop μ-loop
-mul-wide-2 c = search needs
+mul-wide-2 c = omega (arith, c .before .before .before .before .before .before .before .pre)
 
--- src/lib.rt:35:35
 shared-slice-read-wide-2 : tie.Need-shared-slice-read-wide-2 Inv-loop μ-loop
-shared-slice-read-wide-2 c = search needs
+shared-slice-read-wide-2 c = omega (arith, c .before .before .before .before .before .before .before .before .pre)
 
--- src/lib.rt:35:30
 wide-requires-3 : tie.Need-wide-requires-3 Inv-loop μ-loop
 wide-requires-3 c κs = search needs
 
--- src/lib.rt:35:17
+-- the product of the two places read fits 64 bits
+fits : (c : tie.After-wide3 Inv-loop μ-loop)
+    → c .before .before .wide2 .result * c .wide3 .result ≤ (2 ^ 32 - 1) * (2 ^ 32 - 1)
+fits c =
+    let turn = c .before .before .before .before .before .loop in
+    let start = c .before .before .before .before .before .before .before .before .before in
+    rw (c .before .before .wide2 .ensures, c .wide3 .ensures)
+    (small-product (c .before .before .before .shared-slice-known3 .given (turn .i) .fits)
+    (c .before .shared-slice-known4 .given (start .args .k - turn .i) .fits))
+
 mul-z : tie.Need-mul-z Inv-loop μ-loop
-mul-z c = search needs
+mul-z c = omega (arith, fits c)
 
--- src/lib.rt:36:9
+-- as many terms are summed as keep both halves small
+few : (c : tie.At-loop Inv-loop μ-loop) → c .loop .i ≤ 2 ^ 30
+few c = omega (arith, c .before .before .before .before .pre)
+
 add-low : tie.Need-add-low Inv-loop μ-loop
-add-low c = search needs
+add-low c =
+    let at = c .before .before .before .before .before in
+    omega (arith, halves-low (at .loop .inv .1) (few at))
 
--- src/lib.rt:37:9
 add-high : tie.Need-add-high Inv-loop μ-loop
-add-high c = search needs
+add-high c =
+    let at = c .before .before .before .before .before in
+    omega (arith, fits c, halves-high (at .loop .inv .1) (few at))
 
--- src/lib.rt:38:9
 add-i : tie.Need-add-i Inv-loop μ-loop
-add-i c = search needs
+add-i c = omega (arith, few (c .before .before .before .before .before))
 
--- src/lib.rt:34:5
 loop-less : tie.Need-loop-less Inv-loop μ-loop
 loop-less c = search needs
 
--- src/lib.rt:34:5
 loop-again : tie.Need-loop-again Inv-loop μ-loop
-loop-again c = search needs
+unfolding productTerm coefficient
+loop-again c =
+    let at = c .before .before .before .before .before in
+    (search needs, halves-next (at .loop .inv .1) (c .before .before .wide2 .result * c .wide3 .result) (rw (c .before .before .wide2 .ensures, c .wide3 .ensures)) (fits c))
 
--- src/lib.rt:40:5
 remainder-requires : tie.Need-remainder-requires Inv-loop μ-loop
-remainder-requires c κs = search needs
+remainder-requires c κs = (search needs, halves-low (c .before .loop .inv .1) (few (c .before)))
 
--- src/lib.rt:27:1
 returns : tie.Need-returns Inv-loop μ-loop
-returns c = search needs
+unfolding product
+returns c =
+    let at = c .before .before in
+    let all : at .loop .i ≡ suc (at .before .before .before .before .args .k) = omega arith in
+    c .remainder .ensures ∙ rw (halves-total (at .loop .inv .1), all)
 
 pub coefficient-spec : {M : Type 1} → statement M
 coefficient-spec =
