@@ -1,4 +1,8 @@
 -- The contracts of the cut products and the laws behind them.
 --
 --   Halves   a sum of products kept in two halves
+--   Parts    parts of a list, and writes apart from them
+--   Single   products in one variable
 pub mod Halves
+pub mod Parts
+pub mod Single

@@ -5,6 +5,8 @@ ghost use lib.ListN.{length, take, drop};
 ghost use lib.Seq.{sets};
 ghost use Rattle.definition.specs.Lists.{coefficient};
 ghost use Rattle.definition.specs.Substitution.{product};
+ghost use Rattle.product.specs.Parts.{Apart};
+ghost use Rattle.product.specs.Single.{MultipliedAdd};
 
 // A number as a wider one.
 fn wide(x: u32) -> u64
@@ -38,4 +40,20 @@ pub fn coefficient(p: u32, c: u32, x: &[u32], y: &[u32], k: usize) -> u32
         i += 1;
     }
     remainder(p, high, low)
+}
+
+// The n places from t on become they + A B modulo p, cut to n places, where A and B are the n places from a and from b on.
+pub fn multiply_add(p: u32, n: usize, w: &mut [u32], a: usize, b: usize, t: usize) -> u64
+    requires { ⌜ (0 < p) × (n ≤ 2 ^ 30) × Apart (now w) a n t n × Apart (now w) b n t n ⌝ }
+    ensures { λ r. ⌜ MultipliedAdd p n a b t (now (w .entry)) (now (w .exit)) r ⌝ }
+{
+    let end_a = a + n;
+    let end_b = b + n;
+    let mut k = 0;
+    while k < n {
+        let c = w[t + k];
+        w[t + k] = coefficient(p, c, &w[a..end_a], &w[b..end_b], k);
+        k += 1;
+    }
+    n as u64
 }

@@ -1,0 +1,58 @@
+-- Cut products in one variable, on parts of one list.
+--
+--   MultipliedAdd p n a b t before after places   the contract of `multiply_add`
+--   multiplied          its target after the call
+--   multiplied-all      it has n places
+--   multiplied-next     one place more of the product is written
+-- Assumes nothing.
+use Prim.Native.Nat.{ℕ, _+_, _%_, _<_, _≤_}
+use native.Mathlib.Omega.{arith}
+use mathlib.Core.Path.{_≡_, sym, _∙_}
+use mathlib.Core.List.{List}
+use lib.ListN.{length, getD, take, set}
+use lib.Seq.{sets, length-take-le, take-all}
+use native.Mathlib.Nat.{le-of-eq}
+use Rattle.algebra.specs.Lists.{coefficient-tabulate, length-tabulate}
+use Rattle.buffer.specs.Written.{getD-sets-after, sets-take}
+use Rattle.definition.specs.Lists.{coefficient}
+use Rattle.definition.specs.Ranged.{joined, joinedAt}
+use Rattle.definition.specs.Substitution.{product}
+use Rattle.product.specs.Parts.{part, Apart, coefficient-part, part-kept}
+
+-- the n places from t on, plus the product of those from a and from b on
+abbrev pub multiplied : ℕ → ℕ → ℕ → ℕ → ℕ → List ℕ → List ℕ
+multiplied p n a b t w = joined p n (part w t n) (part w a n) (part w b n)
+
+pub record MultipliedAdd (p n a b t : ℕ) (before after : List ℕ) (result : ℕ) : Type 0 where
+  pub written : after ≡ sets before t (multiplied p n a b t before)
+  pub places : result ≡ n
+
+pub length-multiplied : (p n a b t : ℕ) (w : List ℕ) → length (multiplied p n a b t w) ≡ n
+unfolding joined
+length-multiplied p n a b t w = length-tabulate n (joinedAt p (part w t n) (part w a n) (part w b n))
+
+pub multiplied-all : (p n a b t : ℕ) (w : List ℕ) → take n (multiplied p n a b t w) ≡ multiplied p n a b t w
+multiplied-all p n a b t w = take-all n (multiplied p n a b t w) (le-of-eq (length-multiplied p n a b t w))
+
+-- the list after k turns
+abbrev after : ℕ → ℕ → ℕ → ℕ → ℕ → List ℕ → ℕ → List ℕ
+after p n a b t w k = sets w t (take k (multiplied p n a b t w))
+
+module _ (p n a b t : ℕ) (w : List ℕ) (left : Apart w a n t n) (right : Apart w b n t n) (k : ℕ) (below : k < n) where
+  abbrev now : List ℕ
+  now = after p n a b t w k
+
+  pub multiplied-next : set now (t + k) ((getD now (t + k) 0 + product (coefficient (part now a n)) (coefficient (part now b n)) k) % p)
+      ≡ after p n a b t w (k + 1)
+  unfolding joined joinedAt coefficient
+  multiplied-next =
+      let at : ℕ → ℕ = joinedAt p (part w t n) (part w a n) (part w b n) in
+      let whole : length (multiplied p n a b t w) ≡ n = length-multiplied p n a b t w in
+      let size : length (take k (multiplied p n a b t w)) ≡ k = length-take-le k (multiplied p n a b t w) (omega arith) in
+      let place : getD (multiplied p n a b t w) k 0 ≡ at k = coefficient-tabulate n at k below in
+      rw (
+        part-kept left (take k (multiplied p n a b t w)) (omega arith),
+        part-kept right (take k (multiplied p n a b t w)) (omega arith),
+        getD-sets-after w t (take k (multiplied p n a b t w)) (t + k) 0 (omega arith),
+        ← coefficient-part w t n k below,
+      ) (rw (← place) (sets-take w t (multiplied p n a b t w) k 0 (omega arith)))
