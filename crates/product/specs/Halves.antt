@@ -1,7 +1,7 @@
 -- An exact sum of 64-bit numbers whose low and high 32-bit halves are summed apart.
 --
 --   small-product      the product of two 32-bit numbers is at most (2^32 - 1)^2
---   folded             the remainder of 2^32 high + low from the remainders of its parts
+--   carried            the remainder of 2^32 high + low, with what low has above its 32 bits carried to high
 --   Halves c f i low high   2^32 high + low is c + f(0) + .. + f(i - 1), and both halves are small
 --   halves-first       it holds before the first term
 --   halves-next        and after one more
@@ -13,15 +13,17 @@ use native.Mathlib.Nat.{mod-add-mod, mul-le-mul}
 use native.Mathlib.Numerals.{add-one}
 use native.Mathlib.Omega.{arith}
 use mathlib.Core.Path.{_≡_}
-use Rattle.algebra.specs.Remainder.{mod-mul-mod, mul-mod-mod}
+use Rattle.algebra.specs.Remainder.{mod-mul-mod}
 use Rattle.definition.specs.Lists.{sum}
 
 pub small-product : {a b : ℕ} → a < 2 ^ 32 → b < 2 ^ 32 → a * b ≤ (2 ^ 32 - 1) * (2 ^ 32 - 1)
 small-product h k = mul-le-mul {n₂ = 2 ^ 32 - 1} {m₂ = 2 ^ 32 - 1} (omega arith) (omega arith)
 
-pub folded : (p high low : ℕ) → ((2 ^ 32 % p * (high % p)) % p + low) % p ≡ (2 ^ 32 * high + low) % p
-folded p high low =
-    rw (mul-mod-mod (2 ^ 32 % p) high p, mod-mul-mod (2 ^ 32) high p) (mod-add-mod (2 ^ 32 * high) p low)
+pub carried : (p high low : ℕ)
+    → ((high + low / 2 ^ 32) % p * 2 ^ 32 + low % 2 ^ 32) % p ≡ (2 ^ 32 * high + low) % p
+carried p high low =
+    let whole : (high + low / 2 ^ 32) * 2 ^ 32 + low % 2 ^ 32 ≡ 2 ^ 32 * high + low = omega arith in
+    rw (← mod-add-mod ((high + low / 2 ^ 32) % p * 2 ^ 32) p, mod-mul-mod (high + low / 2 ^ 32), mod-add-mod, whole)
 
 pub data Halves (c : ℕ) (f : ℕ → ℕ) (i low high : ℕ) : Type 0 where
   halves : 2 ^ 32 * high + low ≡ c + sum i f → low ≤ (i + 1) * (2 ^ 32 - 1) → high ≤ i * (2 ^ 32 - 1) → Halves c f i low high

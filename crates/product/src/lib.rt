@@ -1,12 +1,18 @@
 // Cut products modulo p, on parts of one lent buffer. Each gives back the number of places that it is cut to.
 ghost use mathlib.Core.Path.{_≡_};
 ghost use Prim.Native.Nat.{_+_, _*_, _%_, _<_, _≤_, _^_};
-ghost use lib.ListN.{length, take, drop};
+ghost use lib.ListN.{length, replicate};
 ghost use lib.Seq.{sets};
 ghost use Rattle.definition.specs.Lists.{coefficient};
 ghost use Rattle.definition.specs.Substitution.{product};
 ghost use Rattle.product.specs.Parts.{Apart};
-ghost use Rattle.product.specs.Single.{MultipliedAdd};
+ghost use Rattle.product.specs.Single.{Multiplied, MultipliedAdd};
+
+// Rows of a polynomial in x and y, one after the other from place `at` on: `count` rows, row j for y^j.
+pub struct Rows {
+    pub at: usize,
+    pub count: usize,
+}
 
 // A number as a wider one.
 fn wide(x: u32) -> u64
@@ -15,14 +21,14 @@ fn wide(x: u32) -> u64
     x as u64
 }
 
-// The remainder of 2^32 high + low modulo p.
+// The remainder of 2^32 high + low modulo p, by two divisions.
 fn remainder(p: u32, high: u64, low: u64) -> u32
-    requires { ⌜ (0 < p) × (low < 2 ^ 63) ⌝ }
+    requires { ⌜ (0 < p) × (high < 2 ^ 63) ⌝ }
     ensures { λ r. ⌜ r ≡ (2 ^ 32 * high + low) % p ⌝ }
 {
     let m = wide(p);
-    let folded = 4294967296 % m * (high % m);
-    ((folded % m + low) % m) as u32
+    let top = (high + low / 4294967296) % m;
+    ((top * 4294967296 + low % 4294967296) % m) as u32
 }
 
 // Coefficient k of c + x y modulo p. The sum is exact, its low and high halves kept apart, and the remainder is taken once.
@@ -56,4 +62,22 @@ pub fn multiply_add(p: u32, n: usize, w: &mut [u32], a: usize, b: usize, t: usiz
         k += 1;
     }
     n as u64
+}
+
+// Sets the n places from t on to zero.
+fn clear_part(w: &mut [u32], t: usize, n: usize)
+    requires { ⌜ t + n ≤ length (now w) ⌝ }
+    ensures { λ r. ⌜ now (w .exit) ≡ sets (now (w .entry)) t (replicate n 0) ⌝ }
+{
+    let end = t + n;
+    buffer::clear(&mut w[t..end], n);
+}
+
+// The n places from t on become A B modulo p, cut to n places, where A and B are the n places from a and from b on.
+pub fn multiply(p: u32, n: usize, w: &mut [u32], a: usize, b: usize, t: usize) -> u64
+    requires { ⌜ (0 < p) × (n ≤ 2 ^ 30) × Apart (now w) a n t n × Apart (now w) b n t n ⌝ }
+    ensures { λ r. ⌜ Multiplied p n a b t (now (w .entry)) (now (w .exit)) r ⌝ }
+{
+    clear_part(w, t, n);
+    multiply_add(p, n, w, a, b, t)
 }

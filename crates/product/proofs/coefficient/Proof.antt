@@ -80,7 +80,7 @@ loop-again c =
     (search needs, halves-next (at .loop .inv .1) (c .before .before .wide2 .result * c .wide3 .result) (rw (c .before .before .wide2 .ensures, c .wide3 .ensures)) (fits c))
 
 remainder-requires : tie.Need-remainder-requires Inv-loop μ-loop
-remainder-requires c κs = (search needs, halves-low (c .before .loop .inv .1) (few (c .before)))
+remainder-requires c κs = (search needs, halves-high (c .before .loop .inv .1) (few (c .before)))
 
 returns : tie.Need-returns Inv-loop μ-loop
 unfolding product
