@@ -3,6 +3,8 @@
 --   Halves   a sum of products kept in two halves
 --   Parts    parts of a list, and writes apart from them
 --   Single   products in one variable
+--   Double   products in two variables
 pub mod Halves
 pub mod Parts
 pub mod Single
+pub mod Double

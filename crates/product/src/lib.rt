@@ -1,10 +1,12 @@
 // Cut products modulo p, on parts of one lent buffer. Each gives back the number of places that it is cut to.
 ghost use mathlib.Core.Path.{_≡_};
-ghost use Prim.Native.Nat.{_+_, _*_, _%_, _<_, _≤_, _^_};
+ghost use Prim.Native.Nat.{_+_, _*_, _%_, _<_, _≤_, _^_, _-_, min};
 ghost use lib.ListN.{length, replicate};
 ghost use lib.Seq.{sets};
-ghost use Rattle.definition.specs.Lists.{coefficient};
+ghost use Rattle.definition.specs.Lists.{coefficient, tabulate};
 ghost use Rattle.definition.specs.Substitution.{product};
+ghost use Rattle.definition.specs.KinoshitaLi.{cutProduct2At};
+ghost use Rattle.product.specs.Double.{MultipliedRows, RowsApart, held};
 ghost use Rattle.product.specs.Parts.{Apart};
 ghost use Rattle.product.specs.Single.{Multiplied, MultipliedAdd};
 
@@ -80,4 +82,45 @@ pub fn multiply(p: u32, n: usize, w: &mut [u32], a: usize, b: usize, t: usize) -
 {
     clear_part(w, t, n);
     multiply_add(p, n, w, a, b, t)
+}
+
+// a - b, or 0 where b is larger.
+fn excess(a: usize, b: usize) -> usize
+    ensures { λ r. ⌜ r ≡ a - b ⌝ }
+{
+    if a < b { 0 } else { a - b }
+}
+
+// The smaller of two numbers.
+fn smaller(a: usize, b: usize) -> usize
+    ensures { λ r. ⌜ r ≡ min a b ⌝ }
+{
+    if a < b { a } else { b }
+}
+
+// The r places from t on become row j of A B modulo p and below x^r.
+fn multiply_row(p: u32, r: usize, w: &mut [u32], a: Rows, b: Rows, j: usize, t: usize)
+    requires { ⌜ (0 < p) × (r ≤ 2 ^ 30) × (j + 1 < 2 ^ 64) × RowsApart r a t r (now w) × RowsApart r b t r (now w) ⌝ }
+    ensures { λ _. ⌜ now (w .exit) ≡ sets (now (w .entry)) t (tabulate r (cutProduct2At p (held r (now (w .entry)) a) (held r (now (w .entry)) b) j)) ⌝ }
+{
+    clear_part(w, t, r);
+    let end = smaller(j + 1, a.count);
+    let mut l = excess(j + 1, b.count);
+    while l < end {
+        multiply_add(p, r, w, a.at + l * r, b.at + (j - l) * r, t);
+        l += 1;
+    }
+}
+
+// The rows at t become rows low, low + 1 and on of A B modulo p and below x^r, where A and B have the rows at a and at b.
+pub fn multiply_rows(p: u32, r: usize, w: &mut [u32], a: Rows, b: Rows, low: usize, t: Rows) -> u64
+    requires { ⌜ (0 < p) × (r ≤ 2 ^ 30) × (low + t .count < 2 ^ 64) × RowsApart r a (t .at) (t .count * r) (now w) × RowsApart r b (t .at) (t .count * r) (now w) ⌝ }
+    ensures { λ q. ⌜ MultipliedRows p r a b low t (now (w .entry)) (now (w .exit)) q ⌝ }
+{
+    let mut k = 0;
+    while k < t.count {
+        multiply_row(p, r, w, a, b, low + k, t.at + k * r);
+        k += 1;
+    }
+    (r * t.count) as u64
 }
