@@ -15,7 +15,7 @@ use native.Mathlib.Omega.{arith}
 use mathlib.Core.Path.{_≡_, refl, sym, ap, fun-ext, _∙_}
 use mathlib.Core.Logic.{by-cases}
 use native.Mathlib.Decide.{decLt}
-use mathlib.Core.List.{List, _++_, append-assoc, append-nil}
+use mathlib.Core.List.{List, [], _++_, append-assoc, append-nil}
 use borrow.Author.Tests.{lt-ltb, le-ltb}
 use lib.Arith.{digits-div, digits-mod}
 use lib.ListN.{length, replicate, length-replicate, getD-replicate}
@@ -116,6 +116,10 @@ module _ (p r : ℕ) (a b : ℕ → ℕ → ℕ) (j l : ℕ) where
           let (n, e) = le-dest few in
           rw (← add-one j, ← e) (sum-cut l n (product2Term a b j i) (λ k low high. h i k low (omega arith)))
 
+pub target-row : {w : List ℕ} {a m t r n : ℕ} → Apart w a m t (n * r) → {k : ℕ} → k < n → Apart w a m (t + k * r) r
+target-row {w} {a} {m} {t} {r} {n} apart {k} h =
+    apart-within apart (omega arith) (omega arith) (omega arith) (omega (arith, mul-le-mul-right r h, suc-mul k r))
+
 pub row-apart : {w : List ℕ} {r t n l : ℕ} {a : Rows} → Apart w (a .at) (a .count * r) t n → l < a .count → Apart w (a .at + l * r) r t n
 row-apart {w} {r} {t} {n} {l} {a} apart h =
     apart-within apart (omega arith) (omega (arith, mul-le-mul-right r h, suc-mul l r)) (omega arith) (omega arith)
@@ -182,6 +186,10 @@ unfolding tabulate
 tabulate-+ m zero f = rw (add-zero, append-nil)
 tabulate-+ m (suc n) f = rw (add-suc, tabulate-+ m n f, append-assoc)
 
+pub plane-0 : (r : ℕ) (a : ℕ → ℕ → ℕ) → plane r 0 a ≡ []
+unfolding plane tabulate
+plane-0 r a = rw zero-mul
+
 pub plane-suc : (r k : ℕ) (a : ℕ → ℕ → ℕ) → plane r (suc k) a ≡ plane r k a ++ tabulate r (a k)
 unfolding plane planePlace
 plane-suc r k a =
@@ -193,16 +201,16 @@ pub length-plane : (r k : ℕ) (a : ℕ → ℕ → ℕ) → length (plane r k a
 unfolding plane
 length-plane r k a = length-tabulate (k * r) (planePlace r a)
 
-module _ (p r : ℕ) (a b : Rows) (low t n : ℕ) (w : List ℕ) where
+module _ (p r : ℕ) (a b : Rows) (low t : ℕ) (w : List ℕ) where
   -- w with k rows of the product written at t, from row low on
   abbrev pub rowsWritten : ℕ → List ℕ
   rowsWritten k = sets w t (plane r k (window low (cutProduct2At p (held r w a) (held r w b))))
 
-  pub rows-next : Apart w (a .at) (a .count * r) t (n * r) → Apart w (b .at) (b .count * r) t (n * r) → (k : ℕ) → k < n
+  pub rows-next : (n : ℕ) → Apart w (a .at) (a .count * r) t (n * r) → Apart w (b .at) (b .count * r) t (n * r) → (k : ℕ) → k < n
       → sets (rowsWritten k) (t + k * r) (tabulate r (cutProduct2At p (held r (rowsWritten k) a) (held r (rowsWritten k) b) (low + k)))
       ≡ rowsWritten (k + 1)
   unfolding window
-  rows-next left right k h =
+  rows-next n left right k h =
       rw (held-kept r w a left us short, held-kept r w b right us short, add-one, plane-suc r k c, ← length-plane r k c)
       (sym (sets-append w t us (tabulate r (c k))))
     where
