@@ -5,10 +5,8 @@ ghost use lib.ListN.{length, replicate};
 ghost use lib.Seq.{sets};
 ghost use Rattle.definition.specs.Lists.{coefficient, tabulate};
 ghost use Rattle.definition.specs.Substitution.{product};
-ghost use Rattle.definition.specs.KinoshitaLi.{cutProduct2At};
-ghost use Rattle.product.specs.Double.{MultipliedRows, RowsApart, held};
-ghost use Rattle.product.specs.Parts.{Apart};
-ghost use Rattle.product.specs.Single.{Multiplied, MultipliedAdd};
+ghost use Rattle.product.specs.Double.{MultipliedRows, RowOperands, productOf};
+ghost use Rattle.product.specs.Single.{Multiplied, MultipliedAdd, Operands};
 
 // Rows of a polynomial in x and y, one after the other from place `at` on: `count` rows, row j for y^j.
 pub struct Rows {
@@ -52,7 +50,7 @@ pub fn coefficient(p: u32, c: u32, x: &[u32], y: &[u32], k: usize) -> u32
 
 // The n places from t on become they + A B modulo p, cut to n places, where A and B are the n places from a and from b on.
 pub fn multiply_add(p: u32, n: usize, w: &mut [u32], a: usize, b: usize, t: usize) -> u64
-    requires { ⌜ (0 < p) × (n ≤ 2 ^ 30) × Apart (now w) a n t n × Apart (now w) b n t n ⌝ }
+    requires { ⌜ Operands p n a b t (now w) ⌝ }
     ensures { λ r. ⌜ MultipliedAdd p n a b t (now (w .entry)) (now (w .exit)) r ⌝ }
 {
     let end_a = a + n;
@@ -77,7 +75,7 @@ fn clear_part(w: &mut [u32], t: usize, n: usize)
 
 // The n places from t on become A B modulo p, cut to n places, where A and B are the n places from a and from b on.
 pub fn multiply(p: u32, n: usize, w: &mut [u32], a: usize, b: usize, t: usize) -> u64
-    requires { ⌜ (0 < p) × (n ≤ 2 ^ 30) × Apart (now w) a n t n × Apart (now w) b n t n ⌝ }
+    requires { ⌜ Operands p n a b t (now w) ⌝ }
     ensures { λ r. ⌜ Multiplied p n a b t (now (w .entry)) (now (w .exit)) r ⌝ }
 {
     clear_part(w, t, n);
@@ -100,8 +98,8 @@ fn smaller(a: usize, b: usize) -> usize
 
 // The r places from t on become row j of A B modulo p and below x^r.
 fn multiply_row(p: u32, r: usize, w: &mut [u32], a: Rows, b: Rows, j: usize, t: usize)
-    requires { ⌜ (0 < p) × (r ≤ 2 ^ 30) × (j + 1 < 2 ^ 64) × RowsApart r a t r (now w) × RowsApart r b t r (now w) ⌝ }
-    ensures { λ _. ⌜ now (w .exit) ≡ sets (now (w .entry)) t (tabulate r (cutProduct2At p (held r (now (w .entry)) a) (held r (now (w .entry)) b) j)) ⌝ }
+    requires { ⌜ RowOperands p r a b t r (now w) × (j + 1 < 2 ^ 64) ⌝ }
+    ensures { λ _. ⌜ now (w .exit) ≡ sets (now (w .entry)) t (tabulate r (productOf p r a b (now (w .entry)) j)) ⌝ }
 {
     clear_part(w, t, r);
     let end = smaller(j + 1, a.count);
@@ -114,7 +112,7 @@ fn multiply_row(p: u32, r: usize, w: &mut [u32], a: Rows, b: Rows, j: usize, t: 
 
 // The rows at t become rows low, low + 1 and on of A B modulo p and below x^r, where A and B have the rows at a and at b.
 pub fn multiply_rows(p: u32, r: usize, w: &mut [u32], a: Rows, b: Rows, low: usize, t: Rows) -> u64
-    requires { ⌜ (0 < p) × (r ≤ 2 ^ 30) × (low + t .count < 2 ^ 64) × RowsApart r a (t .at) (t .count * r) (now w) × RowsApart r b (t .at) (t .count * r) (now w) ⌝ }
+    requires { ⌜ RowOperands p r a b (t .at) (t .count * r) (now w) × (low + t .count < 2 ^ 64) ⌝ }
     ensures { λ q. ⌜ MultipliedRows p r a b low t (now (w .entry)) (now (w .exit)) q ⌝ }
 {
     let mut k = 0;

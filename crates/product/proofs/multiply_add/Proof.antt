@@ -1,20 +1,18 @@
+-- `product::multiply_add` meets its contract: after k turns the first k places are written, and none that is still to be read.
+-- Assumes nothing.
 use borrow.Author.Needs.{needs}
-use native.Mathlib.Omega.{arith}
-use Prim.Native.Nat.{ℕ, _+_, _*_, _-_, _<_, _≤_, _%_}
-use lib.ListN.{length, getD, take, drop, set}
-use mathlib.Core.Path.{_≡_, refl, sym, ap, _∙_}
-use lib.Seq.{sets}
 use native.Mathlib.Nat.{add-sub-cancel-left}
-use Rattle.product.specs.Single.{multiplied, multiplied-next, multiplied-all}
+use native.Mathlib.Omega.{arith}
+use Prim.Native.Nat.{_-_, _≤_}
+use mathlib.Core.Path.{_≡_, _∙_}
+use lib.ListN.{length}
+use Rattle.product.specs.Single.{addedFirst, added-all, added-next}
 use Rattle.product.proofs.multiply_add.Statement.{statement}
 use Rattle.product.proofs.multiply_add.Tie as tie
-use Rattle.product.proofs.multiply_add.Reads as reads
-use Rattle.product.proofs.multiply_add.Lts as lts
-use Rattle.product.proofs.coefficient.Reads as coefficient-reads
 
 abbrev Inv-loop : tie.InvT-loop
 Inv-loop p n w₀ a b t end-a end-b k₀ w k =
-    (k ≤ n) × (length w ≡ length w₀) × (w ≡ sets w₀ t (take k (multiplied p n a b t w₀)))
+    (k ≤ n) × (length w ≡ length w₀) × (w ≡ addedFirst p n a b t w₀ k)
 
 abbrev μ-loop : tie.MeasureT-loop
 μ-loop p n w₀ a b t end-a end-b k₀ w k = n - k
@@ -81,12 +79,11 @@ loop-less c = search needs
 
 loop-again : tie.Need-loop-again Inv-loop μ-loop
 loop-again c =
-    let at = c .before .before .before .before .before .before in
-    let start = at .before .before in (
+    let at = c .before .before .before .before .before .before in (
       search needs,
       search needs,
       rw (c .coefficient .ensures, add-sub-cancel-left, add-sub-cancel-left, at .loop .inv .2)
-          (multiplied-next _ _ _ _ _ _ (start .pre .2) (start .pre .3) (at .loop .k) (c .before .before .before .before .before .loop-test .taken)),
+          (added-next (at .before .before .pre) (at .loop .k) (c .before .before .before .before .before .loop-test .taken)),
     )
 
 same-length : tie.Need-same-length Inv-loop μ-loop
@@ -96,7 +93,7 @@ returns : tie.Need-returns Inv-loop μ-loop
 returns c =
     let all : c .before .loop .k ≡ c .before .before .before .args .n = omega arith in
     record {
-      written = c .before .loop .inv .2 ∙ rw (all, multiplied-all);
+      written = c .before .loop .inv .2 ∙ rw (all, added-all);
       places = search needs;
     }
 

@@ -1,22 +1,18 @@
+-- `product::multiply_row` meets its contract: before each turn the terms below l are summed; those before the first turn and after the
+-- last are zero. Assumes nothing.
 use borrow.Author.Needs.{needs}
 use native.Mathlib.Omega.{arith}
-use Prim.Native.Nat.{ℕ, _+_, _*_, _-_, _<_, _≤_, _%_}
-use lib.ListN.{length, getD, take, drop, set}
-use mathlib.Core.Path.{_≡_, refl, sym, ap, _∙_}
-use Rattle.product.specs.Double.{summed, row-apart, row-first, row-next, row-last}
-use Rattle.product.specs.Parts.{Apart, apart-length}
+use Prim.Native.Nat.{_+_, _*_, _-_, _<_, _≤_}
+use lib.ListN.{length}
+use mathlib.Core.Path.{_≡_, _∙_}
+use Rattle.product.specs.Double.{operands-length, operands-row, rowSum, row-first, row-next, row-last}
+use Rattle.product.specs.Single.{Operands}
 use Rattle.product.proofs.multiply_row.Statement.{statement}
 use Rattle.product.proofs.multiply_row.Tie as tie
-use Rattle.product.proofs.multiply_row.Reads as reads
-use Rattle.product.proofs.multiply_row.Lts as lts
-use Rattle.product.proofs.clear_part.Reads as clear-part-reads
-use Rattle.product.proofs.excess.Reads as excess-reads
-use Rattle.product.proofs.multiply_add.Reads as multiply-add-reads
-use Rattle.product.proofs.smaller.Reads as smaller-reads
 
 abbrev Inv-loop : tie.InvT-loop
 Inv-loop p r w₀ a b j t end l₀ w l =
-    (j + 1 - b .count ≤ l) × (l ≤ j + 1) × (length w ≡ length w₀) × (w ≡ summed p r a b j t w₀ l)
+    (j + 1 - b .count ≤ l) × (l ≤ j + 1) × (length w ≡ length w₀) × (w ≡ rowSum p r a b j t w₀ l)
 
 abbrev μ-loop : tie.MeasureT-loop
 μ-loop p r w₀ a b j t end l₀ w l = end - l
@@ -36,23 +32,13 @@ add-excess c = search needs
 excess-requires : tie.Need-excess-requires Inv-loop μ-loop
 excess-requires c κs = search needs
 
-loop-holds : tie.Need-loop-holds Inv-loop μ-loop
-loop-holds c =
-    let start = c .before .before .before .before .before .before .before in (
-      search needs,
-      omega arith,
-      search needs,
-      rw (c .excess .ensures, c .before .before .before .before .clear-part .ensures)
-          (row-first (start .args .p) (start .args .r) (start .args .a) (start .args .b) (start .args .j) (start .args .t) _ (start .pre .3) (start .pre .4)),
-    )
+abbrev zeroed : tie.At-loop Inv-loop μ-loop → tie.After-clear-part Inv-loop μ-loop
+zeroed c = c .before .before .before .before .before
 
 abbrev start : tie.At-loop Inv-loop μ-loop → tie.Start Inv-loop μ-loop
-start c = c .before .before .before .before .before .before .before .before
+start c = zeroed c .before .before .before
 
-abbrev cleared : tie.At-loop Inv-loop μ-loop → tie.After-clear-part Inv-loop μ-loop
-cleared c = c .before .before .before .before .before
-
--- a turn: the two rows that are multiplied are rows of the factors, so they lie apart from the target
+-- a turn: the two rows that are multiplied are rows of the factors
 module _ (c : tie.In-loop Inv-loop μ-loop) where
   abbrev at : tie.At-loop Inv-loop μ-loop
   at = c .before
@@ -66,31 +52,37 @@ module _ (c : tie.In-loop Inv-loop μ-loop) where
   in-b : begin .args .j - at .loop .l < begin .args .b .count
   in-b = omega arith
 
-  left : Apart (at .loop .w) (begin .args .a .at + at .loop .l * begin .args .r) (begin .args .r) (begin .args .t) (begin .args .r)
-  left = row-apart (apart-length (at .loop .inv .2 ∙ cleared at .clear-part .kept .0) (begin .pre .3)) in-a
+  operands : Operands (begin .args .p) (begin .args .r) (begin .args .a .at + at .loop .l * begin .args .r)
+      (begin .args .b .at + (begin .args .j - at .loop .l) * begin .args .r) (begin .args .t) (at .loop .w)
+  operands = operands-row (operands-length (at .loop .inv .2 ∙ zeroed at .clear-part .kept .0) (begin .pre .0)) in-a in-b
 
-  right : Apart (at .loop .w) (begin .args .b .at + (begin .args .j - at .loop .l) * begin .args .r) (begin .args .r) (begin .args .t) (begin .args .r)
-  right = row-apart (apart-length (at .loop .inv .2 ∙ cleared at .clear-part .kept .0) (begin .pre .4)) in-b
+loop-holds : tie.Need-loop-holds Inv-loop μ-loop
+loop-holds c =
+    let zeroed = c .before .before .before .before in
+    let begin = zeroed .before .before .before in (
+      search needs,
+      omega arith,
+      search needs,
+      rw (c .excess .ensures, zeroed .clear-part .ensures) (row-first (begin .args .j) (begin .pre .0)),
+    )
 
 mul-multiply-add : tie.Need-mul-multiply-add Inv-loop μ-loop
-mul-multiply-add c = omega (arith, left (c .before) .source)
+mul-multiply-add c = omega (arith, operands (c .before) .left .source)
 
 add-multiply-add : tie.Need-add-multiply-add Inv-loop μ-loop
-add-multiply-add c = omega (arith, left (c .before .before) .source)
+add-multiply-add c = omega (arith, operands (c .before .before) .left .source)
 
 sub-multiply-add : tie.Need-sub-multiply-add Inv-loop μ-loop
 sub-multiply-add c = search needs
 
 mul-multiply-add-2 : tie.Need-mul-multiply-add-2 Inv-loop μ-loop
-mul-multiply-add-2 c = omega (arith, right (c .before .before) .source)
+mul-multiply-add-2 c = omega (arith, operands (c .before .before) .right .source)
 
 add-multiply-add-2 : tie.Need-add-multiply-add-2 Inv-loop μ-loop
-add-multiply-add-2 c = omega (arith, right (c .before .before .before) .source)
+add-multiply-add-2 c = omega (arith, operands (c .before .before .before) .right .source)
 
 multiply-add-requires : tie.Need-multiply-add-requires Inv-loop μ-loop
-multiply-add-requires c κs =
-    let turn = c .before .before .before in
-    (search needs, search needs, left turn, right turn)
+multiply-add-requires c κs = operands (c .before .before .before)
 
 add-l : tie.Need-add-l Inv-loop μ-loop
 add-l c = search needs
@@ -101,15 +93,13 @@ loop-less c = search needs
 loop-again : tie.Need-loop-again Inv-loop μ-loop
 loop-again c =
     let turn = c .before .before .before .before .before .before in
-    let begin = start (turn .before) in
-    let same = cleared (turn .before) .clear-part .kept .0 in (
+    let at = turn .before in (
       search needs,
       search needs,
       search needs,
       c .before .before .multiply-add .ensures .written
-          ∙ rw (turn .before .loop .inv .3)
-          (row-next (begin .args .p) (begin .args .r) (begin .args .a) (begin .args .b) (begin .args .j) (begin .args .t) _
-          (apart-length same (begin .pre .3)) (apart-length same (begin .pre .4)) (turn .before .loop .l) (in-a turn) (in-b turn)),
+          ∙ rw (at .loop .inv .3)
+          (row-next (start at .args .j) (operands-length (zeroed at .clear-part .kept .0) (start at .pre .0)) (at .loop .l) (in-a turn) (in-b turn)),
     )
 
 same-length : tie.Need-same-length Inv-loop μ-loop
@@ -117,11 +107,10 @@ same-length c = search needs
 
 returns : tie.Need-returns Inv-loop μ-loop
 returns c =
-    let begin = start (c .before) in
-    c .before .loop .inv .3
-    ∙ rw (cleared (c .before) .clear-part .ensures)
-    (row-last (begin .args .p) (begin .args .r) (begin .args .a) (begin .args .b) (begin .args .j) (begin .args .t) _
-    (begin .pre .3) (begin .pre .4) (c .before .loop .l) (omega arith) (c .before .loop .inv .1))
+    let at = c .before in
+    at .loop .inv .3
+    ∙ rw (zeroed at .clear-part .ensures)
+    (row-last (start at .args .j) (start at .pre .0) (at .loop .l) (omega arith) (at .loop .inv .1))
 
 pub multiply-row-spec : {M : Type 1} → statement M
 multiply-row-spec =

@@ -1,15 +1,14 @@
+-- `product::multiply_rows` meets its contract: after k turns the first k rows are written, and none that is still to be read.
+-- Assumes nothing.
 use borrow.Author.Needs.{needs}
 use native.Mathlib.Omega.{arith}
-use Prim.Native.Nat.{ℕ, _+_, _*_, _-_, _<_, _≤_, _%_}
-use lib.ListN.{length, getD, take, drop, set}
-use mathlib.Core.Path.{_≡_, refl, sym, ap, _∙_}
-use Rattle.product.specs.Double.{plane-0, rowsWritten, rows-next, target-row}
-use Rattle.product.specs.Parts.{Apart, apart-length}
+use Prim.Native.Nat.{_+_, _*_, _-_, _≤_}
+use lib.ListN.{length}
+use mathlib.Core.Path.{_≡_, _∙_}
+use Rattle.product.specs.Double.{RowOperands, operands-length, operands-target, rowsWritten, rows-next}
+use Rattle.product.specs.Planes.{plane-0}
 use Rattle.product.proofs.multiply_rows.Statement.{statement}
 use Rattle.product.proofs.multiply_rows.Tie as tie
-use Rattle.product.proofs.multiply_rows.Reads as reads
-use Rattle.product.proofs.multiply_rows.Lts as lts
-use Rattle.product.proofs.multiply_row.Reads as multiply-row-reads
 
 abbrev Inv-loop : tie.InvT-loop
 Inv-loop p r w₀ a b low t k₀ w k =
@@ -21,7 +20,7 @@ abbrev μ-loop : tie.MeasureT-loop
 abbrev start : tie.At-loop Inv-loop μ-loop → tie.Start Inv-loop μ-loop
 start c = c .before .before
 
--- a turn: the target row is a row of the target, so it lies apart from the factors
+-- a turn: the row that is written is a row of the target
 module _ (c : tie.Then1 Inv-loop μ-loop) where
   abbrev at : tie.At-loop Inv-loop μ-loop
   at = c .before .before
@@ -29,11 +28,9 @@ module _ (c : tie.Then1 Inv-loop μ-loop) where
   abbrev begin : tie.Start Inv-loop μ-loop
   begin = start at
 
-  left : Apart (at .loop .w) (begin .args .a .at) (begin .args .a .count * begin .args .r) (begin .args .t .at + at .loop .k * begin .args .r) (begin .args .r)
-  left = target-row (apart-length (at .loop .inv .1) (begin .pre .3)) (c .if1 .taken)
-
-  right : Apart (at .loop .w) (begin .args .b .at) (begin .args .b .count * begin .args .r) (begin .args .t .at + at .loop .k * begin .args .r) (begin .args .r)
-  right = target-row (apart-length (at .loop .inv .1) (begin .pre .4)) (c .if1 .taken)
+  operands : RowOperands (begin .args .p) (begin .args .r) (begin .args .a) (begin .args .b) (begin .args .t .at + at .loop .k * begin .args .r)
+      (begin .args .r) (at .loop .w)
+  operands = operands-target (operands-length (at .loop .inv .1) (begin .pre .0)) (c .if1 .taken)
 
 loop-holds : tie.Need-loop-holds Inv-loop μ-loop
 loop-holds c = (search needs, search needs, rw plane-0)
@@ -42,15 +39,13 @@ add-multiply-row : tie.Need-add-multiply-row Inv-loop μ-loop
 add-multiply-row c = search needs
 
 mul-multiply-row : tie.Need-mul-multiply-row Inv-loop μ-loop
-mul-multiply-row c = omega (arith, left (c .before) .target)
+mul-multiply-row c = omega (arith, operands (c .before) .left .target)
 
 add-multiply-row-2 : tie.Need-add-multiply-row-2 Inv-loop μ-loop
-add-multiply-row-2 c = omega (arith, left (c .before .before) .target)
+add-multiply-row-2 c = omega (arith, operands (c .before .before) .left .target)
 
 multiply-row-requires : tie.Need-multiply-row-requires Inv-loop μ-loop
-multiply-row-requires c κs =
-    let turn = c .before .before in
-    (search needs, search needs, search needs, left turn, right turn)
+multiply-row-requires c κs = (operands (c .before .before), search needs)
 
 add-k : tie.Need-add-k Inv-loop μ-loop
 add-k c = search needs
@@ -61,13 +56,11 @@ loop-less c = search needs
 loop-again : tie.Need-loop-again Inv-loop μ-loop
 loop-again c =
     let turn = c .before .before .before .before .before in
-    let begin = start (turn .before .before) in (
+    let at = turn .before .before in (
       search needs,
       search needs,
       c .before .before .multiply-row .ensures
-          ∙ rw (turn .before .before .loop .inv .2)
-          (rows-next (begin .args .p) (begin .args .r) (begin .args .a) (begin .args .b) (begin .args .low) (begin .args .t .at) _
-          (begin .args .t .count) (begin .pre .3) (begin .pre .4) (turn .before .before .loop .k) (turn .if1 .taken)),
+          ∙ rw (at .loop .inv .2) (rows-next (start at .args .low) (start at .pre .0) (at .loop .k) (turn .if1 .taken)),
     )
 
 mul-result : tie.Need-mul-result Inv-loop μ-loop
