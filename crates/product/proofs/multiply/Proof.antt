@@ -6,7 +6,7 @@ use Rattle.product.proofs.multiply.Statement.{statement}
 use Rattle.product.proofs.multiply.Tie as tie
 
 clear-part-requires : tie.Need-clear-part-requires
-clear-part-requires c κs = c .before .before .pre .left .target
+clear-part-requires c κs = search needs
 
 multiply-add-requires : tie.Need-multiply-add-requires
 multiply-add-requires c κs =
