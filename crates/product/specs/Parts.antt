@@ -36,9 +36,9 @@ coefficient-part w a n i h = rw (getD-take n (drop a w) i 0 h, getD-drop)
 pub length-part : (w : List ℕ) (a n : ℕ) → length (part w a n) ≤ n
 length-part w a n = rw length-take (min-le-left n (length (drop a w)))
 
-pub apart-within : {w : List ℕ} {a m t n : ℕ} → Apart w a m t n → {b k u l : ℕ} → a ≤ b → b + k ≤ a + m → t ≤ u → u + l ≤ t + n
-    → Apart w b k u l
-apart-within {w} {a} {m} {t} {n} h {b} {k} {u} {l} below-a above-a below-t above-t = record {
+pub apart-within : {w : List ℕ} {a m t n : ℕ} → Apart w a m t n
+    → {b k u l : ℕ} → a ≤ b → b + k ≤ a + m → t ≤ u → u + l ≤ t + n → Apart w b k u l
+apart-within {w} {a} {m} {t} {n} h {b} {k} {u} {l} begins-a ends-a begins-t ends-t = record {
   source = omega (arith, h .source);
   target = omega (arith, h .target);
   apart = ⊎-elim (λ (s : a + m ≤ t). inl (omega arith)) (λ (s : t + n ≤ a). inr (omega arith)) (h .apart);

@@ -48,7 +48,12 @@ module _ (r : ℕ) (w : List ℕ) (a : Rows) where
       inside : (i : ℕ) → i < r → coefficient row i ≡ held r w a l i
       inside i b =
           let below : l * r + i < a .count * r = omega (arith, mul-le-mul-right r h, suc-mul l r) in
-          rw (planeAt-inside r rows l i b, coefficient-part w (a .at + l * r) r i b, coefficient-part w (a .at) (a .count * r) (l * r + i) below, add-assoc)
+          rw (
+            planeAt-inside r rows l i b,
+            coefficient-part w (a .at + l * r) r i b,
+            coefficient-part w (a .at) (a .count * r) (l * r + i) below,
+            add-assoc,
+          )
 
       outside : (i : ℕ) → (i < r → ⊥) → coefficient row i ≡ held r w a l i
       outside i b =

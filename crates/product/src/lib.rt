@@ -8,7 +8,7 @@ ghost use Rattle.definition.specs.Substitution.{product};
 ghost use Rattle.product.specs.Double.{MultipliedRows, RowOperands, productOf};
 ghost use Rattle.product.specs.Single.{Multiplied, MultipliedAdd, Operands};
 
-// Rows of a polynomial in x and y, one after the other from place `at` on: `count` rows, row j for y^j.
+// A polynomial in x and y in a buffer: `count` rows, one after the other from place `at` on, row j for y^j. Later rows are zero.
 pub struct Rows {
     pub at: usize,
     pub count: usize,
@@ -96,7 +96,7 @@ fn smaller(a: usize, b: usize) -> usize
     if a < b { a } else { b }
 }
 
-// The r places from t on become row j of A B modulo p and below x^r.
+// The r places from t on become row j of A B modulo p and below x^r, where A and B stand in rows of r places at a and at b.
 fn multiply_row(p: u32, r: usize, w: &mut [u32], a: Rows, b: Rows, j: usize, t: usize)
     requires { ⌜ RowOperands p r a b t r (now w) × (j + 1 < 2 ^ 64) ⌝ }
     ensures { λ _. ⌜ now (w .exit) ≡ sets (now (w .entry)) t (tabulate r (productOf p r a b (now (w .entry)) j)) ⌝ }
@@ -110,7 +110,7 @@ fn multiply_row(p: u32, r: usize, w: &mut [u32], a: Rows, b: Rows, j: usize, t: 
     }
 }
 
-// The rows at t become rows low, low + 1 and on of A B modulo p and below x^r, where A and B have the rows at a and at b.
+// The rows at t become rows low, low + 1 and on of A B modulo p and below x^r, where A and B stand in rows of r places at a and at b.
 pub fn multiply_rows(p: u32, r: usize, w: &mut [u32], a: Rows, b: Rows, low: usize, t: Rows) -> u64
     requires { ⌜ RowOperands p r a b (t .at) (t .count * r) (now w) × (low + t .count < 2 ^ 64) ⌝ }
     ensures { λ q. ⌜ MultipliedRows p r a b low t (now (w .entry)) (now (w .exit)) q ⌝ }

@@ -1,7 +1,7 @@
 -- `product::coefficient` meets its contract: the two halves hold c and the terms summed so far. Assumes nothing.
 use borrow.Author.Needs.{needs}
 use native.Mathlib.Omega.{arith}
-use Prim.Native.Nat.{suc, _+_, _*_, _-_, _≤_, _^_}
+use Prim.Native.Nat.{ℕ, suc, _+_, _*_, _-_, _≤_, _^_}
 use mathlib.Core.Path.{_≡_, _∙_}
 use Rattle.definition.specs.Lists.{coefficient}
 use Rattle.definition.specs.Substitution.{product, productTerm}
@@ -40,35 +40,35 @@ shared-slice-read-wide-2 c = omega (arith, c .before .before .before .before .be
 wide-requires-3 : tie.Need-wide-requires-3 Inv-loop μ-loop
 wide-requires-3 c κs = search needs
 
+abbrev at : tie.After-wide3 Inv-loop μ-loop → tie.At-loop Inv-loop μ-loop
+at c = c .before .before .before .before .before
+
+abbrev term : tie.After-wide3 Inv-loop μ-loop → ℕ
+term c = c .before .before .wide2 .result * c .wide3 .result
+
 -- the product of the two places read fits 64 bits
-fits : (c : tie.After-wide3 Inv-loop μ-loop)
-    → c .before .before .wide2 .result * c .wide3 .result ≤ (2 ^ 32 - 1) * (2 ^ 32 - 1)
+fits : (c : tie.After-wide3 Inv-loop μ-loop) → term c ≤ (2 ^ 32 - 1) * (2 ^ 32 - 1)
 fits c =
-    let turn = c .before .before .before .before .before .loop in
-    let start = c .before .before .before .before .before .before .before .before .before in
+    let start = at c .before .before .before .before in
     rw (c .before .before .wide2 .ensures, c .wide3 .ensures)
-    (small-product (c .before .before .before .shared-slice-known3 .given (turn .i) .fits)
-    (c .before .shared-slice-known4 .given (start .args .k - turn .i) .fits))
+    (small-product (c .before .before .before .shared-slice-known3 .given (at c .loop .i) .fits)
+    (c .before .shared-slice-known4 .given (start .args .k - at c .loop .i) .fits))
 
 mul-z : tie.Need-mul-z Inv-loop μ-loop
 mul-z c = omega (arith, fits c)
 
--- as many terms are summed as keep both halves small
+-- so few terms are summed that both halves stay small
 few : (c : tie.At-loop Inv-loop μ-loop) → c .loop .i ≤ 2 ^ 30
 few c = omega (arith, c .before .before .before .before .pre)
 
 add-low : tie.Need-add-low Inv-loop μ-loop
-add-low c =
-    let at = c .before .before .before .before .before in
-    omega (arith, halves-low (at .loop .inv .1) (few at))
+add-low c = omega (arith, halves-low (at c .loop .inv .1) (few (at c)))
 
 add-high : tie.Need-add-high Inv-loop μ-loop
-add-high c =
-    let at = c .before .before .before .before .before in
-    omega (arith, fits c, halves-high (at .loop .inv .1) (few at))
+add-high c = omega (arith, fits c, halves-high (at c .loop .inv .1) (few (at c)))
 
 add-i : tie.Need-add-i Inv-loop μ-loop
-add-i c = omega (arith, few (c .before .before .before .before .before))
+add-i c = omega (arith, few (at c))
 
 loop-less : tie.Need-loop-less Inv-loop μ-loop
 loop-less c = search needs
@@ -76,8 +76,7 @@ loop-less c = search needs
 loop-again : tie.Need-loop-again Inv-loop μ-loop
 unfolding productTerm coefficient
 loop-again c =
-    let at = c .before .before .before .before .before in
-    (search needs, halves-next (at .loop .inv .1) (c .before .before .wide2 .result * c .wide3 .result) (rw (c .before .before .wide2 .ensures, c .wide3 .ensures)) (fits c))
+    (search needs, halves-next (at c .loop .inv .1) (term c) (cc (c .before .before .wide2 .ensures, c .wide3 .ensures)) (fits c))
 
 remainder-requires : tie.Need-remainder-requires Inv-loop μ-loop
 remainder-requires c κs = (search needs, halves-high (c .before .loop .inv .1) (few (c .before)))
@@ -85,9 +84,9 @@ remainder-requires c κs = (search needs, halves-high (c .before .loop .inv .1) 
 returns : tie.Need-returns Inv-loop μ-loop
 unfolding product
 returns c =
-    let at = c .before .before in
-    let all : at .loop .i ≡ suc (at .before .before .before .before .args .k) = omega arith in
-    c .remainder .ensures ∙ rw (halves-total (at .loop .inv .1), all)
+    let end = c .before .before in
+    let all : end .loop .i ≡ suc (end .before .before .before .before .args .k) = omega arith in
+    c .remainder .ensures ∙ rw (halves-total (end .loop .inv .1), all)
 
 pub coefficient-spec : {M : Type 1} → statement M
 coefficient-spec =
