@@ -21,6 +21,7 @@ use mathlib.Core.List.{List}
 use lib.ListN.{length, replicate, length-replicate, getD-replicate}
 use lib.Seq.{sets}
 use Rattle.algebra.specs.Lists.{coefficient-tabulate, length-tabulate, table-of, tabulate-cong}
+use Rattle.algebra.specs.Rows.{length-plane}
 use Rattle.buffer.specs.Written.{sets-append, sets-cover}
 use Rattle.definition.specs.KinoshitaLi.{plane, product2, product2Term, cutProduct2At, window}
 use Rattle.definition.specs.Lists.{sum, tabulate, coefficient}
@@ -28,7 +29,7 @@ use Rattle.definition.specs.Ranged.{joined, joinedAt}
 use Rattle.definition.specs.Substitution.{product, productTerm}
 use Rattle.product.specs.declared.Rows.{Rows}
 use Rattle.product.specs.Parts.{part, Apart, apart-length, apart-within}
-use Rattle.product.specs.Planes.{held, row-held, held-beyond, held-kept, plane-suc, length-plane}
+use Rattle.product.specs.Planes.{held, row-held, held-beyond, held-kept, plane-suc}
 use Rattle.product.specs.Single.{Operands, addedProduct, added-over}
 
 pub record RowOperands (p r : ℕ) (a b : Rows) (t n : ℕ) (w : List ℕ) : Type 0 where

@@ -4,19 +4,20 @@
 --   Apart w a m t n     the m places from a on and the n places from t on lie inside w, and have none in common
 --   coefficient-part    a place of a part
 --   length-part         its length
+--   part-part           a part of a part
 --   cleared-part        a part that was lent, came back cleared
 --   part-kept           a part is as it was after a write apart from it
 --   apart-within        parts of two parts that lie apart lie apart
 --   apart-length        and they do so in every list of that length
 -- Assumes nothing.
-use Prim.Native.Nat.{ℕ, _+_, _-_, _<_, _≤_}
-use native.Mathlib.Nat.{min-le-left}
+use Prim.Native.Nat.{ℕ, zero, suc, _+_, _-_, _<_, _≤_}
+use native.Mathlib.Nat.{min-le-left, suc-add, zero-add}
 use native.Mathlib.Omega.{arith}
 use mathlib.Core.Path.{_≡_, ap}
 use mathlib.Core.Logic.{_⊎_, inl, inr, ⊎-elim}
-use mathlib.Core.List.{List, _++_, append-nil}
+use mathlib.Core.List.{List, [], _∷_, _++_, append-nil}
 use lib.ListN.{length, take, drop, replicate, length-take, length-replicate, drop-of-length-le}
-use lib.Seq.{sets, getD-drop, getD-take}
+use lib.Seq.{sets, drop-drop, getD-drop, getD-take, take-nil, take-take}
 use Rattle.buffer.specs.Written.{drop-sets, drop-sets-inside, sets-part, take-sets}
 use Rattle.definition.specs.Answer.{cleared}
 use Rattle.definition.specs.Lists.{coefficient}
@@ -35,6 +36,16 @@ coefficient-part w a n i h = rw (getD-take n (drop a w) i 0 h, getD-drop)
 
 pub length-part : (w : List ℕ) (a n : ℕ) → length (part w a n) ≤ n
 length-part w a n = rw length-take (min-le-left n (length (drop a w)))
+
+drop-take : {A : Type 0} (i n : ℕ) (l : List A) → drop i (take (i + n) l) ≡ take n (drop i l)
+drop-take zero n l = rw zero-add
+drop-take (suc i) n [] = rw (suc-add, take-nil n)
+drop-take (suc i) n (x ∷ l) = rw suc-add (drop-take i n l)
+
+pub part-part : (w : List ℕ) (a n i k : ℕ) → i + k ≤ n → part (part w a n) i k ≡ part w (a + i) k
+part-part w a n i k h =
+    let e : n ≡ i + (n - i) = omega arith in
+    rw (e, drop-take i (n - i) (drop a w), take-take k (n - i) _ (omega arith), drop-drop)
 
 pub apart-within : {w : List ℕ} {a m t n : ℕ} → Apart w a m t n
     → {b k u l : ℕ} → a ≤ b → b + k ≤ a + m → t ≤ u → u + l ≤ t + n → Apart w b k u l
