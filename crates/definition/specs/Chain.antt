@@ -1,4 +1,5 @@
--- Chains of cycles (01's terms). A cycle with list c makes the running series s into c(s) modulo x^n.
+-- Chains of cycles. A chain (01's term) is a modulus p, an order n, a count of cycles done and a running series s (01's term), which opening
+-- sets to x modulo x^n. A cycle (01's term) with list c makes s into c(s) modulo x^n.
 --
 --   after p n s cs     the running series after the cycles cs, first cycle first, from the series s
 --   running p n cs     the same from an opened chain, whose running series is x modulo x^n

@@ -1,4 +1,5 @@
 -- Polynomial substitution over the natural numbers, with the remainder modulo p last. A sequence ℕ → ℕ gives the coefficient of each power.
+-- p is the modulus, n the order, f the outer and g the inner list (01's terms).
 --
 --   product a b k       coefficient k of a × b: the sum of a(i) b(k - i) over i from 0 to k
 --   power g i k         coefficient k of g^i

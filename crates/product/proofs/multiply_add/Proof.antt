@@ -1,0 +1,128 @@
+-- `product::multiply_add` meets its contract: after k turns the first k places are written, and none that is still to be read.
+-- Assumes nothing.
+use borrow.Author.Needs.{needs}
+use native.Mathlib.Nat.{add-sub-cancel-left}
+use native.Mathlib.Omega.{arith}
+use Prim.Native.Nat.{_-_, _≤_}
+use mathlib.Core.Path.{_≡_, _∙_}
+use lib.ListN.{length}
+use Rattle.product.specs.Single.{addedFirst, added-all, added-next}
+use Rattle.product.proofs.multiply_add.Statement.{statement}
+use Rattle.product.proofs.multiply_add.Tie as tie
+
+abbrev Inv-loop : tie.InvT-loop
+Inv-loop p n w₀ a b t end-a end-b k₀ w k =
+    (k ≤ n) × (length w ≡ length w₀) × (w ≡ addedFirst p n a b t w₀ k)
+
+abbrev μ-loop : tie.MeasureT-loop
+μ-loop p n w₀ a b t end-a end-b k₀ w k = n - k
+
+add-end-a : tie.Need-add-end-a Inv-loop μ-loop
+add-end-a c = search needs
+
+add-end-b : tie.Need-add-end-b Inv-loop μ-loop
+add-end-b c = search needs
+
+loop-holds : tie.Need-loop-holds Inv-loop μ-loop
+loop-holds c = search needs
+
+add-c : tie.Need-add-c Inv-loop μ-loop
+add-c c = search needs
+
+mul-c : tie.Need-mul-c Inv-loop μ-loop
+mul-c c = search needs
+
+slice-read-c : tie.Need-slice-read-c Inv-loop μ-loop
+slice-read-c c = search needs
+
+mul-coefficient : tie.Need-mul-coefficient Inv-loop μ-loop
+mul-coefficient c = search needs
+
+sub-coefficient : tie.Need-sub-coefficient Inv-loop μ-loop
+sub-coefficient c = search needs
+
+part-coefficient-start : tie.Need-part-coefficient-start Inv-loop μ-loop
+part-coefficient-start c = search needs
+
+part-coefficient-end : tie.Need-part-coefficient-end Inv-loop μ-loop
+part-coefficient-end c = search needs
+
+mul-coefficient-2 : tie.Need-mul-coefficient-2 Inv-loop μ-loop
+mul-coefficient-2 c = search needs
+
+sub-coefficient-2 : tie.Need-sub-coefficient-2 Inv-loop μ-loop
+sub-coefficient-2 c = search needs
+
+part-coefficient-start-2 : tie.Need-part-coefficient-start-2 Inv-loop μ-loop
+part-coefficient-start-2 c = search needs
+
+part-coefficient-end-2 : tie.Need-part-coefficient-end-2 Inv-loop μ-loop
+part-coefficient-end-2 c = search needs
+
+coefficient-requires : tie.Need-coefficient-requires Inv-loop μ-loop
+coefficient-requires c κs = search needs
+
+add-w : tie.Need-add-w Inv-loop μ-loop
+add-w c = search needs
+
+mul-w : tie.Need-mul-w Inv-loop μ-loop
+mul-w c = search needs
+
+slice-write-w : tie.Need-slice-write-w Inv-loop μ-loop
+slice-write-w c = search needs
+
+add-k : tie.Need-add-k Inv-loop μ-loop
+add-k c = search needs
+
+loop-less : tie.Need-loop-less Inv-loop μ-loop
+loop-less c = search needs
+
+loop-again : tie.Need-loop-again Inv-loop μ-loop
+loop-again c =
+    let at = c .before .before .before .before .before .before in (
+      search needs,
+      search needs,
+      rw (c .coefficient .ensures, add-sub-cancel-left, add-sub-cancel-left, at .loop .inv .2)
+          (added-next (at .before .before .pre) (at .loop .k) (c .before .before .before .before .before .loop-test .taken)),
+    )
+
+same-length : tie.Need-same-length Inv-loop μ-loop
+same-length c = search needs
+
+returns : tie.Need-returns Inv-loop μ-loop
+returns c =
+    let all : c .before .loop .k ≡ c .before .before .before .args .n = omega arith in
+    record {
+      written = c .before .loop .inv .2 ∙ rw (all, added-all);
+      places = search needs;
+    }
+
+pub multiply-add-spec : {M : Type 1} → statement M
+multiply-add-spec =
+    tie.close
+    (tie.spec
+    Inv-loop
+    μ-loop
+    add-end-a
+    add-end-b
+    loop-holds
+    add-c
+    mul-c
+    slice-read-c
+    mul-coefficient
+    sub-coefficient
+    part-coefficient-start
+    part-coefficient-end
+    mul-coefficient-2
+    sub-coefficient-2
+    part-coefficient-start-2
+    part-coefficient-end-2
+    coefficient-requires
+    add-w
+    mul-w
+    slice-write-w
+    add-k
+    loop-less
+    loop-again
+    same-length
+    returns)

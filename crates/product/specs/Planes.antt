@@ -1,0 +1,56 @@
+-- Polynomials in x and y that stand in a list, row by row: row j has the coefficients of y^j.
+--
+--   held r w a            the polynomial whose rows, of r places each, stand in w at a
+--   row-held              row l of it is a part of w
+--   held-beyond           rows past the last are zero
+--   held-kept             it is as it was after a write apart from it
+--   plane-0 plane-suc     a list of rows grows by its last row
+-- Assumes nothing.
+use Prim.Native.Nat.{ℕ, zero, suc, _+_, _*_, _<_, _≤_}
+use native.Mathlib.Nat.{add-suc, add-zero, mul-le-mul-right, suc-mul, zero-mul}
+use native.Mathlib.Omega.{arith}
+use mathlib.Core.Path.{_≡_, ap}
+use mathlib.Core.List.{List, [], _++_, append-assoc, append-nil}
+use lib.Arith.{digits-div, digits-mod}
+use lib.ListN.{length}
+use lib.Seq.{sets}
+use Rattle.algebra.specs.Rows.{planeAt-above, planeAt-row}
+use Rattle.algebra.specs.Lists.{tabulate-cong}
+use Rattle.definition.specs.KinoshitaLi.{planeAt, plane, planePlace}
+use Rattle.definition.specs.Lists.{tabulate, coefficient}
+use Rattle.product.specs.declared.Rows.{Rows}
+use Rattle.product.specs.Parts.{part, Apart, length-part, part-kept, part-part}
+
+abbrev pub held : ℕ → List ℕ → Rows → ℕ → ℕ → ℕ
+held r w a = planeAt r (part w (a .at) (a .count * r))
+
+module _ (r : ℕ) (w : List ℕ) (a : Rows) where
+  abbrev rows : List ℕ
+  rows = part w (a .at) (a .count * r)
+
+  pub row-held : (l : ℕ) → l < a .count → coefficient (part w (a .at + l * r) r) ≡ held r w a l
+  row-held l h =
+      rw (← part-part w (a .at) (a .count * r) (l * r) r (omega (arith, mul-le-mul-right r h, suc-mul l r)))
+      (planeAt-row r rows l)
+
+  pub held-beyond : (l : ℕ) → a .count ≤ l → (i : ℕ) → held r w a l i ≡ 0
+  held-beyond l h i = planeAt-above r (a .count) rows (length-part w (a .at) (a .count * r)) l i h
+
+  pub held-kept : {t n : ℕ} → Apart w (a .at) (a .count * r) t n → (vs : List ℕ) → length vs ≤ n → held r (sets w t vs) a ≡ held r w a
+  held-kept apart vs short = ap (planeAt r) (part-kept apart vs short)
+
+tabulate-+ : (m n : ℕ) (f : ℕ → ℕ) → tabulate (m + n) f ≡ tabulate m f ++ tabulate n (λ k. f (m + k))
+unfolding tabulate
+tabulate-+ m zero f = rw (add-zero, append-nil)
+tabulate-+ m (suc n) f = rw (add-suc, tabulate-+ m n f, append-assoc)
+
+pub plane-0 : (r : ℕ) (a : ℕ → ℕ → ℕ) → plane r 0 a ≡ []
+unfolding plane tabulate
+plane-0 r a = rw zero-mul
+
+pub plane-suc : (r k : ℕ) (a : ℕ → ℕ → ℕ) → plane r (suc k) a ≡ plane r k a ++ tabulate r (a k)
+unfolding plane planePlace
+plane-suc r k a =
+    rw (suc-mul, tabulate-+ (k * r) r (planePlace r a))
+    (ap (λ l. tabulate (k * r) (planePlace r a) ++ l)
+    (tabulate-cong r (λ i. planePlace r a (k * r + i)) (a k) (λ i h. rw (digits-div k h, digits-mod k h))))

@@ -1,0 +1,104 @@
+-- Cut products in one variable, on parts of one list.
+--
+--   Operands p n a b t w      what `multiply` and `multiply_add` require
+--   operands-length           it holds of every list of that length
+--   Multiplied                the contract of `multiply`
+--   MultipliedAdd             the contract of `multiply_add`
+--   addedProduct p n a b t w  its target after the call: the n places from t on, plus the product of those from a and from b on
+--   added-all                 this is a list of n places
+--   added-next                one place more of it is written
+--   added-over                it over a target that was written before
+--   added-zeros               it over zeros is the product
+-- Assumes nothing.
+use Prim.Native.Nat.{ℕ, _+_, _%_, _^_, _<_, _≤_}
+use native.Mathlib.Nat.{le-of-eq, le-refl, zero-add}
+use native.Mathlib.Omega.{arith}
+use mathlib.Core.Path.{_≡_, ap, _∙_}
+use mathlib.Core.List.{List}
+use lib.ListN.{length, getD, take, drop, set, replicate, length-replicate, getD-replicate}
+use lib.Seq.{sets, length-take-le, take-all}
+use Rattle.algebra.specs.Lists.{coefficient-tabulate, length-tabulate, tabulate-cong}
+use Rattle.buffer.specs.Written.{getD-sets-after, part-sets, sets-cover, sets-take}
+use Rattle.definition.specs.Lists.{coefficient}
+use Rattle.definition.specs.Ranged.{joined, joinedAt}
+use Rattle.definition.specs.Substitution.{product, cutProduct, cutProductAt}
+use Rattle.product.specs.Parts.{part, Apart, apart-length, coefficient-part, part-kept}
+
+pub record Operands (p n a b t : ℕ) (w : List ℕ) : Type 0 where
+  pub modulus : 0 < p
+  pub order : n ≤ 2 ^ 30
+  pub left : Apart w a n t n
+  pub right : Apart w b n t n
+
+pub operands-length : {p n a b t : ℕ} {v w : List ℕ} → length v ≡ length w → Operands p n a b t w → Operands p n a b t v
+operands-length e o = record {
+  modulus = o .modulus;
+  order = o .order;
+  left = apart-length e (o .left);
+  right = apart-length e (o .right);
+}
+
+pub record Multiplied (p n a b t : ℕ) (before after : List ℕ) (result : ℕ) : Type 0 where
+  pub written : after ≡ sets before t (cutProduct p n (part before a n) (part before b n))
+  pub places : result ≡ n
+
+abbrev pub addedProduct : ℕ → ℕ → ℕ → ℕ → ℕ → List ℕ → List ℕ
+addedProduct p n a b t w = joined p n (part w t n) (part w a n) (part w b n)
+
+pub record MultipliedAdd (p n a b t : ℕ) (before after : List ℕ) (result : ℕ) : Type 0 where
+  pub written : after ≡ sets before t (addedProduct p n a b t before)
+  pub places : result ≡ n
+
+length-joined : (p n : ℕ) (s u v : List ℕ) → length (joined p n s u v) ≡ n
+unfolding joined
+length-joined p n s u v = length-tabulate n (joinedAt p s u v)
+
+joined-zeros : (p n : ℕ) (u v : List ℕ) → joined p n (replicate n 0) u v ≡ cutProduct p n u v
+unfolding joined joinedAt cutProduct cutProductAt coefficient
+joined-zeros p n u v =
+    tabulate-cong n (joinedAt p (replicate n 0) u v) (cutProductAt p u v) (λ k h. rw (getD-replicate {A = ℕ} n k 0 0 h, zero-add))
+
+pub added-all : (p n a b t : ℕ) (w : List ℕ) → take n (addedProduct p n a b t w) ≡ addedProduct p n a b t w
+added-all p n a b t w =
+    take-all n (addedProduct p n a b t w) (le-of-eq (length-joined p n (part w t n) (part w a n) (part w b n)))
+
+-- w with the first k places written
+abbrev pub addedFirst : ℕ → ℕ → ℕ → ℕ → ℕ → List ℕ → ℕ → List ℕ
+addedFirst p n a b t w k = sets w t (take k (addedProduct p n a b t w))
+
+module _ {p n a b t : ℕ} {w : List ℕ} (o : Operands p n a b t w) where
+  abbrev now : ℕ → List ℕ
+  now k = addedFirst p n a b t w k
+
+  pub added-next : (k : ℕ) → k < n
+      → set (now k) (t + k) ((getD (now k) (t + k) 0 + product (coefficient (part (now k) a n)) (coefficient (part (now k) b n)) k) % p)
+      ≡ now (k + 1)
+  unfolding joined joinedAt coefficient
+  added-next k below =
+      let whole : length total ≡ n = length-joined p n (part w t n) (part w a n) (part w b n) in
+      let size : length (take k total) ≡ k = length-take-le k total (omega arith) in
+      let place : getD total k 0 ≡ at k = coefficient-tabulate n at k below in
+      rw (
+        part-kept (o .left) (take k total) (omega arith),
+        part-kept (o .right) (take k total) (omega arith),
+        getD-sets-after w t (take k total) (t + k) 0 (omega arith),
+        ← coefficient-part w t n k below,
+      )
+      (rw (← place) (sets-take w t total k 0 (omega arith)))
+    where
+      at : ℕ → ℕ
+      at = joinedAt p (part w t n) (part w a n) (part w b n)
+
+      total : List ℕ
+      total = addedProduct p n a b t w
+
+  pub added-over : (us : List ℕ) → length us ≡ n
+      → sets (sets w t us) t (addedProduct p n a b t (sets w t us)) ≡ sets w t (joined p n us (part w a n) (part w b n))
+  added-over us size =
+      let same : take n (drop t (sets w t us)) ≡ us = rw size at (part-sets w t us (omega (arith, o .left .target))) in
+      rw (same, part-kept (o .left) us (le-of-eq size), part-kept (o .right) us (le-of-eq size))
+      (sets-cover w t us (joined p n us (part w a n) (part w b n)) (rw (size, length-joined p n us (part w a n) (part w b n)) (le-refl n)))
+
+  pub added-zeros : sets (sets w t (replicate n 0)) t (addedProduct p n a b t (sets w t (replicate n 0)))
+      ≡ sets w t (cutProduct p n (part w a n) (part w b n))
+  added-zeros = added-over (replicate n 0) (length-replicate n 0) ∙ ap (sets w t) (joined-zeros p n (part w a n) (part w b n))

@@ -1,0 +1,124 @@
+// Cut products modulo p, on parts of one lent buffer. Each gives back the number of places that it is cut to.
+ghost use mathlib.Core.Path.{_≡_};
+ghost use Prim.Native.Nat.{_+_, _*_, _%_, _<_, _≤_, _^_, _-_, min};
+ghost use lib.ListN.{length, replicate};
+ghost use lib.Seq.{sets};
+ghost use Rattle.definition.specs.Lists.{coefficient, tabulate};
+ghost use Rattle.definition.specs.Substitution.{product};
+ghost use Rattle.product.specs.Double.{MultipliedRows, RowOperands, productOf};
+ghost use Rattle.product.specs.Single.{Multiplied, MultipliedAdd, Operands};
+
+// A polynomial in x and y in a buffer: `count` rows, one after the other from place `at` on, row j for y^j. Later rows are zero.
+pub struct Rows {
+    pub at: usize,
+    pub count: usize,
+}
+
+// A number as a wider one.
+fn wide(x: u32) -> u64
+    ensures { λ r. ⌜ r ≡ x ⌝ }
+{
+    x as u64
+}
+
+// The remainder of 2^32 high + low modulo p, by two divisions.
+fn remainder(p: u32, high: u64, low: u64) -> u32
+    requires { ⌜ (0 < p) × (high < 2 ^ 63) ⌝ }
+    ensures { λ r. ⌜ r ≡ (2 ^ 32 * high + low) % p ⌝ }
+{
+    let m = wide(p);
+    let top = (high + low / 4294967296) % m;
+    ((top * 4294967296 + low % 4294967296) % m) as u32
+}
+
+// Coefficient k of c + x y modulo p. The sum is exact, its low and high halves kept apart, and the remainder is taken once.
+pub fn coefficient(p: u32, c: u32, x: &[u32], y: &[u32], k: usize) -> u32
+    requires { ⌜ (0 < p) × (k < length (now x)) × (k < length (now y)) × (k < 2 ^ 30) ⌝ }
+    ensures { λ r. ⌜ r ≡ (c + product (coefficient (now (x .entry))) (coefficient (now (y .entry))) k) % p ⌝ }
+{
+    let mut low = wide(c);
+    let mut high: u64 = 0;
+    let mut i = 0;
+    while i <= k {
+        let z = wide(x[i]) * wide(y[k - i]);
+        low += z % 4294967296;
+        high += z / 4294967296;
+        i += 1;
+    }
+    remainder(p, high, low)
+}
+
+// The n places from t on become they + A B modulo p, cut to n places, where A and B are the n places from a and from b on.
+pub fn multiply_add(p: u32, n: usize, w: &mut [u32], a: usize, b: usize, t: usize) -> u64
+    requires { ⌜ Operands p n a b t (now w) ⌝ }
+    ensures { λ r. ⌜ MultipliedAdd p n a b t (now (w .entry)) (now (w .exit)) r ⌝ }
+{
+    let end_a = a + n;
+    let end_b = b + n;
+    let mut k = 0;
+    while k < n {
+        let c = w[t + k];
+        w[t + k] = coefficient(p, c, &w[a..end_a], &w[b..end_b], k);
+        k += 1;
+    }
+    n as u64
+}
+
+// Sets the n places from t on to zero.
+fn clear_part(w: &mut [u32], t: usize, n: usize)
+    requires { ⌜ t + n ≤ length (now w) ⌝ }
+    ensures { λ r. ⌜ now (w .exit) ≡ sets (now (w .entry)) t (replicate n 0) ⌝ }
+{
+    let end = t + n;
+    buffer::clear(&mut w[t..end], n);
+}
+
+// The n places from t on become A B modulo p, cut to n places, where A and B are the n places from a and from b on.
+pub fn multiply(p: u32, n: usize, w: &mut [u32], a: usize, b: usize, t: usize) -> u64
+    requires { ⌜ Operands p n a b t (now w) ⌝ }
+    ensures { λ r. ⌜ Multiplied p n a b t (now (w .entry)) (now (w .exit)) r ⌝ }
+{
+    clear_part(w, t, n);
+    multiply_add(p, n, w, a, b, t)
+}
+
+// a - b, or 0 where b is larger.
+fn excess(a: usize, b: usize) -> usize
+    ensures { λ r. ⌜ r ≡ a - b ⌝ }
+{
+    if a < b { 0 } else { a - b }
+}
+
+// The smaller of two numbers.
+fn smaller(a: usize, b: usize) -> usize
+    ensures { λ r. ⌜ r ≡ min a b ⌝ }
+{
+    if a < b { a } else { b }
+}
+
+// The r places from t on become row j of A B modulo p and below x^r, where A and B stand in rows of r places at a and at b.
+fn multiply_row(p: u32, r: usize, w: &mut [u32], a: Rows, b: Rows, j: usize, t: usize)
+    requires { ⌜ RowOperands p r a b t r (now w) × (j + 1 < 2 ^ 64) ⌝ }
+    ensures { λ _. ⌜ now (w .exit) ≡ sets (now (w .entry)) t (tabulate r (productOf p r a b (now (w .entry)) j)) ⌝ }
+{
+    clear_part(w, t, r);
+    let end = smaller(j + 1, a.count);
+    let mut l = excess(j + 1, b.count);
+    while l < end {
+        multiply_add(p, r, w, a.at + l * r, b.at + (j - l) * r, t);
+        l += 1;
+    }
+}
+
+// The rows at t become rows low, low + 1 and on of A B modulo p and below x^r, where A and B stand in rows of r places at a and at b.
+pub fn multiply_rows(p: u32, r: usize, w: &mut [u32], a: Rows, b: Rows, low: usize, t: Rows) -> u64
+    requires { ⌜ RowOperands p r a b (t .at) (t .count * r) (now w) × (low + t .count < 2 ^ 64) ⌝ }
+    ensures { λ q. ⌜ MultipliedRows p r a b low t (now (w .entry)) (now (w .exit)) q ⌝ }
+{
+    let mut k = 0;
+    while k < t.count {
+        multiply_row(p, r, w, a, b, low + k, t.at + k * r);
+        k += 1;
+    }
+    (r * t.count) as u64
+}
