@@ -23,7 +23,7 @@ use native.Mathlib.Nat.{lt-suc-self}
 use native.Mathlib.Omega.{arith}
 use Rattle.definition.specs.Lists.{ceilDiv}
 use Rattle.definition.specs.Weight.{degreeBound}
-use Rattle.algebra.specs.Agree.{Agree, agree-refl, agree-trans, agree-weaken}
+use Rattle.algebra.specs.Agree.{Agree, agree-1, agree-refl, agree-trans, agree-weaken}
 use Rattle.algebra.specs.Alternate.{0<2}
 use Rattle.algebra.specs.Cut.{window, ⊠-window, Degree, cut, cut-below, cut-beyond, cut-equal}
 use Rattle.algebra.specs.Evaluate.{evaluate, polynomial}
@@ -144,8 +144,7 @@ module _ {A : Type 0} (R : Semiring A) (N : Negation R) (P : Series A) where
 
     order-one : (Q : Plane A) (j : ℕ)
         → Agree 1 (coefficients (constants R) (quotient R N P (λ i. Q i 0)) j) (fraction Q j)
-    order-one Q j zero l = rw (coefficients-at (constants R), constant-0 R) (sym (fraction-at-0 Q j))
-    order-one Q j (suc k) l = absurd (omega arith)
+    order-one Q j = agree-1 _ _ (rw (coefficients-at (constants R), constant-0 R) (sym (fraction-at-0 Q j)))
 
     pub levels-fraction : (K r q d : ℕ) (Q : Plane A) → 0 < r → r ≤ 2 ^ K → Q 0 ≡ 𝟙 → Degree (series R) m q Q
         → levels K r q d Q ≡ cut-plane R (m - d) r (window d (fraction Q))

@@ -1,4 +1,4 @@
--- The quotient of two series by recursion; it is their quotient where the second has constant term 𝟙. Assumes nothing.
+-- The quotient P/Q of two series, by a recursion that gives it where Q has constant term 𝟙. Assumes nothing.
 --
 -- ⊕ and ⊗ are the operations of the coefficients, ⊠ is the product of series.
 --
