@@ -11,6 +11,7 @@
 --   lists-equal              lists of n places with equal coefficients below n are equal
 --   sum-naturals             a sum of the definitions is a sum in the semiring of natural numbers
 --   sum-cong                 sums of equal terms
+--   sum-zero sum-beyond      all terms 0; terms that are 0 from m on may be left out
 --   ceilDiv-below            k < ⌈n/p⌉ exactly when k p < n
 --   ceilDiv-covers           n ≤ ⌈n/p⌉ p
 --   ceilDiv-0 ceilDiv-1      ⌈0/p⌉ and ⌈n/1⌉
@@ -76,6 +77,12 @@ sum-naturals (suc n) f = rw (Sum.sum-suc naturals n f, sum-naturals n f)
 
 pub sum-cong : (n : ℕ) (f g : ℕ → ℕ) → ((k : ℕ) → k < n → f k ≡ g k) → sum n f ≡ sum n g
 sum-cong n f g h = rw (sum-naturals n f, sum-naturals n g) (Sum.sum-cong naturals n f g h)
+
+pub sum-zero : (n : ℕ) (f : ℕ → ℕ) → ((k : ℕ) → k < n → f k ≡ 0) → sum n f ≡ 0
+sum-zero n f h = sum-naturals n f ∙ Sum.sum-𝟘 naturals n f h
+
+pub sum-beyond : (m n : ℕ) (f : ℕ → ℕ) → m ≤ n → ((k : ℕ) → m ≤ k → k < n → f k ≡ 0) → sum n f ≡ sum m f
+sum-beyond m n f b h = rw (sum-naturals n f, sum-naturals m f) (Sum.sum-beyond naturals m n f b h)
 
 pub ceilDiv-below : {p : ℕ} → 0 < p → (n k : ℕ) → (k < ceilDiv n p) ↔ (k * p < n)
 unfolding ceilDiv

@@ -12,15 +12,15 @@
 --   rowsWritten           w with the first k rows of the product written at t, from row low on
 --   rows-next             one row more
 -- Assumes nothing.
-use Prim.Native.Nat.{ℕ, zero, suc, _+_, _-_, _*_, _%_, _^_, _<_, _≤_, min}
-use native.Mathlib.Nat.{add-suc, add-zero, le-dest, le-of-eq, le-of-lt, le-refl, mod-add-mod, mul-le-mul-right, mul-zero, suc-mul, zero-add, zero-mod, zero-mul}
+use Prim.Native.Nat.{ℕ, suc, _+_, _-_, _*_, _%_, _^_, _<_, _≤_, min}
+use native.Mathlib.Nat.{le-of-eq, le-of-lt, le-refl, mod-add-mod, mul-le-mul-right, mul-zero, suc-mul, zero-mod, zero-mul}
 use native.Mathlib.Numerals.{add-one}
 use native.Mathlib.Omega.{arith}
 use mathlib.Core.Path.{_≡_, sym, ap, _∙_}
 use mathlib.Core.List.{List}
 use lib.ListN.{length, replicate, length-replicate, getD-replicate}
 use lib.Seq.{sets}
-use Rattle.algebra.specs.Lists.{coefficient-tabulate, length-tabulate, table-of, tabulate-cong}
+use Rattle.algebra.specs.Lists.{coefficient-tabulate, length-tabulate, sum-beyond, sum-zero, table-of, tabulate-cong}
 use Rattle.algebra.specs.Rows.{length-plane}
 use Rattle.buffer.specs.Written.{sets-append, sets-cover}
 use Rattle.definition.specs.KinoshitaLi.{plane, product2, product2Term, cutProduct2At, window}
@@ -80,17 +80,7 @@ module _ {p r : ℕ} {a b : Rows} where
       row : {c m : ℕ} → Apart w c m t (n * r) → Apart w c m (t + k * r) r
       row apart = apart-within apart (omega arith) (omega arith) (omega arith) (omega (arith, mul-le-mul-right r h, suc-mul k r))
 
--- sums of which some terms are zero
-
-sum-cut : (m n : ℕ) (f : ℕ → ℕ) → ((k : ℕ) → m ≤ k → k < m + n → f k ≡ 0) → sum (m + n) f ≡ sum m f
-unfolding sum
-sum-cut m zero f h = rw add-zero
-sum-cut m (suc n) f h =
-    rw (add-suc, h (m + n) (omega arith) (omega arith), add-zero) (sum-cut m n f (λ k b c. h k b (omega arith)))
-
-sum-zero : (n : ℕ) (f : ℕ → ℕ) → ((k : ℕ) → k < n → f k ≡ 0) → sum n f ≡ 0
-unfolding sum
-sum-zero n f h = rw zero-add at (sum-cut 0 n f (λ k b c. h k (omega arith)))
+-- terms that are zero
 
 module _ (a b : ℕ → ℕ → ℕ) (j i l : ℕ) where
   term-left : ((k : ℕ) → a l k ≡ 0) → product2Term a b j i l ≡ 0
@@ -119,9 +109,7 @@ module _ (p r : ℕ) (a b : ℕ → ℕ → ℕ) (j l : ℕ) where
   row-all few h = tabulate-cong r (rowAt p a b j l) (cutProduct2At p a b j) (λ i c. sym (rw (whole i)))
     where
       whole : (i : ℕ) → sum (suc j) (product2Term a b j i) ≡ sum l (product2Term a b j i)
-      whole i =
-          let (n, e) = le-dest few in
-          rw (← add-one j, ← e) (sum-cut l n (product2Term a b j i) (λ k low high. h i k low (omega arith)))
+      whole i = sum-beyond l (suc j) (product2Term a b j i) (omega arith) (λ k low high. h i k low (omega arith))
 
 abbrev pub rowSum : ℕ → ℕ → Rows → Rows → ℕ → ℕ → List ℕ → ℕ → List ℕ
 rowSum p r a b j t w l = sets w t (tabulate r (rowAt p (held r w a) (held r w b) j l))
