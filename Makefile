@@ -8,9 +8,9 @@ PLAIN := $(wildcard tests/second/*.rs tests/second/*/*.rs)
 RUSTC := rustc --edition 2021 -O -D warnings
 SEED := 1
 
-.PHONY: test run clean formatted second definitions tools
+.PHONY: test run clean formatted second definitions wrong-definitions tools
 
-test: tools formatted second definitions
+test: tools formatted second wrong-definitions
 	rt ci
 
 run: tools
@@ -33,6 +33,10 @@ definitions: tools $(DEFINITIONS)
 	$(DEFINITIONS) crates/definition/specs target/equations/crates/equations $(SEED)
 	cd target/equations && rt check equations
 
+# wrong definitions, which those equations must refuse
+wrong-definitions: definitions
+	python3 tests/definitions/refused.py target/equations
+
 $(SECOND): $(PLAIN)
 	mkdir -p $(@D)
 	$(RUSTC) -o $@ tests/second/main.rs
@@ -45,6 +49,7 @@ $(DEFINITIONS): $(PLAIN) $(wildcard tests/definitions/*.rs)
 tools:
 	@command -v rt >/dev/null || { echo 'rt is missing: install the Rattle toolchain first' >&2; exit 1; }
 	@command -v rustc >/dev/null || { apt-get update && apt-get install -y rustc; }
+	@command -v python3 >/dev/null || { apt-get update && apt-get install -y python3; }
 
 clean:
 	rm -rf target

@@ -8,6 +8,7 @@
 #[path = "../second/plain/mod.rs"]
 mod plain;
 mod rows;
+mod steps;
 mod written;
 
 use plain::random::Random;
@@ -16,7 +17,8 @@ fn main() {
     let words: Vec<String> = std::env::args().collect();
     let seed = words.get(3).map_or(1, |word| word.parse().expect("the seed is a number"));
     let mut random = Random::new(seed);
-    let equations = rows::all(&mut random);
+    let mut equations = rows::all(&mut random);
+    equations.extend(steps::all(&mut random));
     written::write(&words[1], &words[2], &equations).expect("the crate is written");
     println!("{} equations between definitions and the second implementation", equations.len());
 }

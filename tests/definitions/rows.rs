@@ -1,14 +1,14 @@
-//! The equations, a group for each notion. Arguments are small: the definitions are computed as they stand.
+//! The equations of the notions that a call is made of, a group for each. Arguments are small: the definitions are computed as they stand.
 
 use crate::plain::random::Random;
 use crate::plain::{
     chain::Chain, job, primes, refusals, render, reversion, substitution, taylor, weights,
 };
 
-const PRIMES: [u64; 5] = [2, 3, 5, 7, 11];
+pub const PRIMES: [u64; 5] = [2, 3, 5, 7, 11];
 
 /// A list as the definitions write it.
-fn list<T: std::fmt::Display>(places: &[T]) -> String {
+pub fn list<T: std::fmt::Display>(places: &[T]) -> String {
     let shown: Vec<String> = places.iter().map(|place| format!("{place} ∷ ")).collect();
     format!("({}[])", shown.concat())
 }
@@ -22,6 +22,7 @@ pub fn all(random: &mut Random) -> Vec<String> {
         equations.extend(reverse(random));
         equations.push(running(random));
         equations.extend(numbers(random));
+        equations.push(late(random));
         equations.push(text(random));
         equations.push(file(random));
     }
@@ -107,6 +108,21 @@ fn numbers(random: &mut Random) -> Vec<String> {
     ]
 }
 
+/// The number of a cycle that passes all tests but, perhaps, the last two: constant terms, and cycles done.
+fn late(random: &mut Random) -> String {
+    let (route, p, n) = (random.route(), random.pick(&PRIMES), random.count(1, 3));
+    let (mut cycle, mut series) = (random.list(p, 2), random.list(p, n));
+    cycle[0] = u32::from(random.once_in(4));
+    series[0] = u32::from(random.once_in(4));
+    let (done, work) = (62 + random.below(4), refusals::cycle_work_places(n as u64, 2));
+    let number = refusals::cycle(route, p, n as u64, done, &cycle, &series, work as usize);
+    format!(
+        "cycleRefusal {route} {p} {n} {done} {} {} {work} ≡ {number}",
+        list(&cycle),
+        list(&series)
+    )
+}
+
 fn text(random: &mut Random) -> String {
     let (number, n, count) = (random.below(3) as u32 * 7, 1 + random.below(99), random.count(0, 3));
     let weight = random.next() >> random.below(64);
@@ -115,7 +131,7 @@ fn text(random: &mut Random) -> String {
     format!("rendered {number} {n} {weight} {} ≡ {}", list(&coefficients), list(&bytes))
 }
 
-/// A job file, whole or damaged in one byte or at its end.
+/// A job file, whole, cut anywhere, cut within its last number, or with another number in its header.
 fn file(random: &mut Random) -> String {
     let p = random.pick(&PRIMES);
     let (outer, inner) = (random.count(0, 3), random.count(0, 3));
@@ -124,12 +140,10 @@ fn file(random: &mut Random) -> String {
     let header = [1 + random.below(4) as u32, p as u32, 1 + random.below(3) as u32];
     let words = header.iter().chain(&counts).chain(&f).chain(&g);
     let mut bytes: Vec<u8> = words.flat_map(|word| word.to_le_bytes()).collect();
-    match random.below(3) {
+    match random.below(4) {
         0 => bytes.truncate(random.count(0, bytes.len())),
-        1 => {
-            let place = 4 * random.count(2, 6);
-            bytes[place] = random.below(80) as u8;
-        }
+        1 => bytes.truncate(bytes.len() - random.count(1, 4)),
+        2 => bytes[4 * random.count(2, 6)] = random.below(80) as u8,
         _ => {}
     }
     format!("jobText {} ≡ {}", list(&bytes), list(&job::run(&bytes)))

@@ -28,7 +28,7 @@ use Rattle.definition.specs.Lists.{sum, tabulate, coefficient}
 use Rattle.definition.specs.Ranged.{joined, joinedAt}
 use Rattle.definition.specs.Substitution.{product, productTerm}
 use Rattle.product.specs.declared.Rows.{Rows}
-use Rattle.product.specs.Parts.{part, Apart, apart-length, apart-within}
+use Rattle.product.specs.Segments.{segment, Apart, apart-length, apart-within}
 use Rattle.product.specs.Planes.{held, row-held, held-beyond, held-kept, plane-suc}
 use Rattle.product.specs.Single.{Operands, addedProduct, added-over}
 
@@ -124,10 +124,10 @@ module _ {p r : ℕ} {a b : Rows} (j : ℕ) {t : ℕ} {w : List ℕ} (o : RowOpe
       ∙ ap (sets w t) (tabulate-cong r (joinedAt p us row-a row-b) (rowAt p (held r w a) (held r w b) j (l + 1)) step)
     where
       row-a : List ℕ
-      row-a = part w (a .at + l * r) r
+      row-a = segment w (a .at + l * r) r
 
       row-b : List ℕ
-      row-b = part w (b .at + (j - l) * r) r
+      row-b = segment w (b .at + (j - l) * r) r
 
       us : List ℕ
       us = tabulate r (rowAt p (held r w a) (held r w b) j l)

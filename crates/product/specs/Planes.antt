@@ -19,25 +19,25 @@ use Rattle.algebra.specs.Lists.{tabulate-cong}
 use Rattle.definition.specs.KinoshitaLi.{planeAt, plane, planePlace}
 use Rattle.definition.specs.Lists.{tabulate, coefficient}
 use Rattle.product.specs.declared.Rows.{Rows}
-use Rattle.product.specs.Parts.{part, Apart, length-part, part-kept, part-part}
+use Rattle.product.specs.Segments.{segment, Apart, length-segment, segment-kept, segment-segment}
 
 abbrev pub held : ℕ → List ℕ → Rows → ℕ → ℕ → ℕ
-held r w a = planeAt r (part w (a .at) (a .count * r))
+held r w a = planeAt r (segment w (a .at) (a .count * r))
 
 module _ (r : ℕ) (w : List ℕ) (a : Rows) where
   abbrev rows : List ℕ
-  rows = part w (a .at) (a .count * r)
+  rows = segment w (a .at) (a .count * r)
 
-  pub row-held : (l : ℕ) → l < a .count → coefficient (part w (a .at + l * r) r) ≡ held r w a l
+  pub row-held : (l : ℕ) → l < a .count → coefficient (segment w (a .at + l * r) r) ≡ held r w a l
   row-held l h =
-      rw (← part-part w (a .at) (a .count * r) (l * r) r (omega (arith, mul-le-mul-right r h, suc-mul l r)))
+      rw (← segment-segment w (a .at) (a .count * r) (l * r) r (omega (arith, mul-le-mul-right r h, suc-mul l r)))
       (planeAt-row r rows l)
 
   pub held-beyond : (l : ℕ) → a .count ≤ l → (i : ℕ) → held r w a l i ≡ 0
-  held-beyond l h i = planeAt-above r (a .count) rows (length-part w (a .at) (a .count * r)) l i h
+  held-beyond l h i = planeAt-above r (a .count) rows (length-segment w (a .at) (a .count * r)) l i h
 
   pub held-kept : {t n : ℕ} → Apart w (a .at) (a .count * r) t n → (vs : List ℕ) → length vs ≤ n → held r (sets w t vs) a ≡ held r w a
-  held-kept apart vs short = ap (planeAt r) (part-kept apart vs short)
+  held-kept apart vs short = ap (planeAt r) (segment-kept apart vs short)
 
 tabulate-+ : (m n : ℕ) (f : ℕ → ℕ) → tabulate (m + n) f ≡ tabulate m f ++ tabulate n (λ k. f (m + k))
 unfolding tabulate

@@ -22,7 +22,7 @@ use Rattle.buffer.specs.Written.{getD-sets-after, part-sets, sets-cover, sets-t
 use Rattle.definition.specs.Lists.{coefficient}
 use Rattle.definition.specs.Ranged.{joined, joinedAt}
 use Rattle.definition.specs.Substitution.{product, cutProduct, cutProductAt}
-use Rattle.product.specs.Parts.{part, Apart, apart-length, coefficient-part, part-kept}
+use Rattle.product.specs.Segments.{segment, Apart, apart-length, coefficient-segment, segment-kept}
 
 pub record Operands (p n a b t : ℕ) (w : List ℕ) : Type 0 where
   pub modulus : 0 < p
@@ -39,11 +39,11 @@ operands-length e o = record {
 }
 
 pub record Multiplied (p n a b t : ℕ) (before after : List ℕ) (result : ℕ) : Type 0 where
-  pub written : after ≡ sets before t (cutProduct p n (part before a n) (part before b n))
+  pub written : after ≡ sets before t (cutProduct p n (segment before a n) (segment before b n))
   pub places : result ≡ n
 
 abbrev pub addedProduct : ℕ → ℕ → ℕ → ℕ → ℕ → List ℕ → List ℕ
-addedProduct p n a b t w = joined p n (part w t n) (part w a n) (part w b n)
+addedProduct p n a b t w = joined p n (segment w t n) (segment w a n) (segment w b n)
 
 pub record MultipliedAdd (p n a b t : ℕ) (before after : List ℕ) (result : ℕ) : Type 0 where
   pub written : after ≡ sets before t (addedProduct p n a b t before)
@@ -60,7 +60,7 @@ joined-zeros p n u v =
 
 pub added-all : (p n a b t : ℕ) (w : List ℕ) → take n (addedProduct p n a b t w) ≡ addedProduct p n a b t w
 added-all p n a b t w =
-    take-all n (addedProduct p n a b t w) (le-of-eq (length-joined p n (part w t n) (part w a n) (part w b n)))
+    take-all n (addedProduct p n a b t w) (le-of-eq (length-joined p n (segment w t n) (segment w a n) (segment w b n)))
 
 -- w with the first k places written
 abbrev pub addedFirst : ℕ → ℕ → ℕ → ℕ → ℕ → List ℕ → ℕ → List ℕ
@@ -71,34 +71,34 @@ module _ {p n a b t : ℕ} {w : List ℕ} (o : Operands p n a b t w) where
   now k = addedFirst p n a b t w k
 
   pub added-next : (k : ℕ) → k < n
-      → set (now k) (t + k) ((getD (now k) (t + k) 0 + product (coefficient (part (now k) a n)) (coefficient (part (now k) b n)) k) % p)
+      → set (now k) (t + k) ((getD (now k) (t + k) 0 + product (coefficient (segment (now k) a n)) (coefficient (segment (now k) b n)) k) % p)
       ≡ now (k + 1)
   unfolding joined joinedAt coefficient
   added-next k below =
-      let whole : length total ≡ n = length-joined p n (part w t n) (part w a n) (part w b n) in
+      let whole : length total ≡ n = length-joined p n (segment w t n) (segment w a n) (segment w b n) in
       let size : length (take k total) ≡ k = length-take-le k total (omega arith) in
       let place : getD total k 0 ≡ at k = coefficient-tabulate n at k below in
       rw (
-        part-kept (o .left) (take k total) (omega arith),
-        part-kept (o .right) (take k total) (omega arith),
+        segment-kept (o .left) (take k total) (omega arith),
+        segment-kept (o .right) (take k total) (omega arith),
         getD-sets-after w t (take k total) (t + k) 0 (omega arith),
-        ← coefficient-part w t n k below,
+        ← coefficient-segment w t n k below,
       )
       (rw (← place) (sets-take w t total k 0 (omega arith)))
     where
       at : ℕ → ℕ
-      at = joinedAt p (part w t n) (part w a n) (part w b n)
+      at = joinedAt p (segment w t n) (segment w a n) (segment w b n)
 
       total : List ℕ
       total = addedProduct p n a b t w
 
   pub added-over : (us : List ℕ) → length us ≡ n
-      → sets (sets w t us) t (addedProduct p n a b t (sets w t us)) ≡ sets w t (joined p n us (part w a n) (part w b n))
+      → sets (sets w t us) t (addedProduct p n a b t (sets w t us)) ≡ sets w t (joined p n us (segment w a n) (segment w b n))
   added-over us size =
       let same : take n (drop t (sets w t us)) ≡ us = rw size at (part-sets w t us (omega (arith, o .left .target))) in
-      rw (same, part-kept (o .left) us (le-of-eq size), part-kept (o .right) us (le-of-eq size))
-      (sets-cover w t us (joined p n us (part w a n) (part w b n)) (rw (size, length-joined p n us (part w a n) (part w b n)) (le-refl n)))
+      rw (same, segment-kept (o .left) us (le-of-eq size), segment-kept (o .right) us (le-of-eq size))
+      (sets-cover w t us (joined p n us (segment w a n) (segment w b n)) (rw (size, length-joined p n us (segment w a n) (segment w b n)) (le-refl n)))
 
   pub added-zeros : sets (sets w t (replicate n 0)) t (addedProduct p n a b t (sets w t (replicate n 0)))
-      ≡ sets w t (cutProduct p n (part w a n) (part w b n))
-  added-zeros = added-over (replicate n 0) (length-replicate n 0) ∙ ap (sets w t) (joined-zeros p n (part w a n) (part w b n))
+      ≡ sets w t (cutProduct p n (segment w a n) (segment w b n))
+  added-zeros = added-over (replicate n 0) (length-replicate n 0) ∙ ap (sets w t) (joined-zeros p n (segment w a n) (segment w b n))

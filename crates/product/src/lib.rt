@@ -32,7 +32,7 @@ fn remainder(p: u32, high: u64, low: u64) -> u32
 }
 
 // Coefficient k of c + x y modulo p. The sum is exact, its low and high halves kept apart, and the remainder is taken once.
-pub fn coefficient(p: u32, c: u32, x: &[u32], y: &[u32], k: usize) -> u32
+pub fn product_coefficient(p: u32, c: u32, x: &[u32], y: &[u32], k: usize) -> u32
     requires { ⌜ (0 < p) × (k < length (now x)) × (k < length (now y)) × (k < 2 ^ 30) ⌝ }
     ensures { λ r. ⌜ r ≡ (c + product (coefficient (now (x .entry))) (coefficient (now (y .entry))) k) % p ⌝ }
 {
@@ -58,7 +58,7 @@ pub fn multiply_add(p: u32, n: usize, w: &mut [u32], a: usize, b: usize, t: usiz
     let mut k = 0;
     while k < n {
         let c = w[t + k];
-        w[t + k] = coefficient(p, c, &w[a..end_a], &w[b..end_b], k);
+        w[t + k] = product_coefficient(p, c, &w[a..end_a], &w[b..end_b], k);
         k += 1;
     }
     n as u64

@@ -1,7 +1,7 @@
 -- `product::clear_part` meets its contract: the part that is lent comes back cleared. Assumes nothing.
 use borrow.Author.Needs.{needs}
 use native.Mathlib.Nat.{add-sub-cancel-left}
-use Rattle.product.specs.Parts.{cleared-part}
+use Rattle.product.specs.Segments.{cleared-segment}
 use Rattle.product.proofs.clear_part.Statement.{statement}
 use Rattle.product.proofs.clear_part.Tie as tie
 
@@ -27,7 +27,7 @@ same-length : tie.Need-same-length
 same-length c = search needs
 
 returns : tie.Need-returns
-returns c = rw (c .before .before .clear .ensures, add-sub-cancel-left) (cleared-part _ _ _ (c .before .before .before .before .before .pre))
+returns c = rw (c .before .before .clear .ensures, add-sub-cancel-left) (cleared-segment _ _ _ (c .before .before .before .before .before .pre))
 
 pub clear-part-spec : {M : Type 1} → statement M
 clear-part-spec =

@@ -35,32 +35,32 @@ mul-c c = search needs
 slice-read-c : tie.Need-slice-read-c Inv-loop μ-loop
 slice-read-c c = search needs
 
-mul-coefficient : tie.Need-mul-coefficient Inv-loop μ-loop
-mul-coefficient c = search needs
+mul-product-coefficient : tie.Need-mul-product-coefficient Inv-loop μ-loop
+mul-product-coefficient c = search needs
 
-sub-coefficient : tie.Need-sub-coefficient Inv-loop μ-loop
-sub-coefficient c = search needs
+sub-product-coefficient : tie.Need-sub-product-coefficient Inv-loop μ-loop
+sub-product-coefficient c = search needs
 
-part-coefficient-start : tie.Need-part-coefficient-start Inv-loop μ-loop
-part-coefficient-start c = search needs
+part-product-coefficient-start : tie.Need-part-product-coefficient-start Inv-loop μ-loop
+part-product-coefficient-start c = search needs
 
-part-coefficient-end : tie.Need-part-coefficient-end Inv-loop μ-loop
-part-coefficient-end c = search needs
+part-product-coefficient-end : tie.Need-part-product-coefficient-end Inv-loop μ-loop
+part-product-coefficient-end c = search needs
 
-mul-coefficient-2 : tie.Need-mul-coefficient-2 Inv-loop μ-loop
-mul-coefficient-2 c = search needs
+mul-product-coefficient-2 : tie.Need-mul-product-coefficient-2 Inv-loop μ-loop
+mul-product-coefficient-2 c = search needs
 
-sub-coefficient-2 : tie.Need-sub-coefficient-2 Inv-loop μ-loop
-sub-coefficient-2 c = search needs
+sub-product-coefficient-2 : tie.Need-sub-product-coefficient-2 Inv-loop μ-loop
+sub-product-coefficient-2 c = search needs
 
-part-coefficient-start-2 : tie.Need-part-coefficient-start-2 Inv-loop μ-loop
-part-coefficient-start-2 c = search needs
+part-product-coefficient-start-2 : tie.Need-part-product-coefficient-start-2 Inv-loop μ-loop
+part-product-coefficient-start-2 c = search needs
 
-part-coefficient-end-2 : tie.Need-part-coefficient-end-2 Inv-loop μ-loop
-part-coefficient-end-2 c = search needs
+part-product-coefficient-end-2 : tie.Need-part-product-coefficient-end-2 Inv-loop μ-loop
+part-product-coefficient-end-2 c = search needs
 
-coefficient-requires : tie.Need-coefficient-requires Inv-loop μ-loop
-coefficient-requires c κs = search needs
+product-coefficient-requires : tie.Need-product-coefficient-requires Inv-loop μ-loop
+product-coefficient-requires c κs = search needs
 
 add-w : tie.Need-add-w Inv-loop μ-loop
 add-w c = search needs
@@ -82,7 +82,7 @@ loop-again c =
     let at = c .before .before .before .before .before .before in (
       search needs,
       search needs,
-      rw (c .coefficient .ensures, add-sub-cancel-left, add-sub-cancel-left, at .loop .inv .2)
+      rw (c .product-coefficient .ensures, add-sub-cancel-left, add-sub-cancel-left, at .loop .inv .2)
           (added-next (at .before .before .pre) (at .loop .k) (c .before .before .before .before .before .loop-test .taken)),
     )
 
@@ -109,15 +109,15 @@ multiply-add-spec =
     add-c
     mul-c
     slice-read-c
-    mul-coefficient
-    sub-coefficient
-    part-coefficient-start
-    part-coefficient-end
-    mul-coefficient-2
-    sub-coefficient-2
-    part-coefficient-start-2
-    part-coefficient-end-2
-    coefficient-requires
+    mul-product-coefficient
+    sub-product-coefficient
+    part-product-coefficient-start
+    part-product-coefficient-end
+    mul-product-coefficient-2
+    sub-product-coefficient-2
+    part-product-coefficient-start-2
+    part-product-coefficient-end-2
+    product-coefficient-requires
     add-w
     mul-w
     slice-write-w

@@ -1,14 +1,14 @@
--- Parts of a list, and writes that lie apart from them.
+-- Segments of a list, the places from one on, and writes that lie apart from them.
 --
---   part w a n          the n places of w from place a on
---   Apart w a m t n     the m places from a on and the n places from t on lie inside w, and have none in common
---   coefficient-part    a place of a part
---   length-part         its length
---   part-part           a part of a part
---   cleared-part        a part that was lent, came back cleared
---   part-kept           a part is as it was after a write apart from it
---   apart-within        parts of two parts that lie apart lie apart
---   apart-length        and they do so in every list of that length
+--   segment w a n         the n places of w from place a on
+--   Apart w a m t n       the m places from a on and the n places from t on lie inside w, and have none in common
+--   coefficient-segment   a place of a segment
+--   length-segment        its length
+--   segment-segment       a segment of a segment
+--   cleared-segment       a segment that was lent, came back cleared
+--   segment-kept          a segment is as it was after a write apart from it
+--   apart-within          segments of two segments that lie apart lie apart
+--   apart-length          and they do so in every list of that length
 -- Assumes nothing.
 use Prim.Native.Nat.{ℕ, zero, suc, _+_, _-_, _<_, _≤_}
 use native.Mathlib.Nat.{min-le-left, suc-add, zero-add}
@@ -22,28 +22,28 @@ use Rattle.buffer.specs.Written.{drop-sets, drop-sets-inside, sets-part, take-s
 use Rattle.definition.specs.Answer.{cleared}
 use Rattle.definition.specs.Lists.{coefficient}
 
-abbrev pub part : List ℕ → ℕ → ℕ → List ℕ
-part w a n = take n (drop a w)
+abbrev pub segment : List ℕ → ℕ → ℕ → List ℕ
+segment w a n = take n (drop a w)
 
 pub record Apart (w : List ℕ) (a m t n : ℕ) : Type 0 where
   pub source : a + m ≤ length w
   pub target : t + n ≤ length w
   pub apart : (a + m ≤ t) ⊎ (t + n ≤ a)
 
-pub coefficient-part : (w : List ℕ) (a n i : ℕ) → i < n → coefficient (part w a n) i ≡ coefficient w (a + i)
+pub coefficient-segment : (w : List ℕ) (a n i : ℕ) → i < n → coefficient (segment w a n) i ≡ coefficient w (a + i)
 unfolding coefficient
-coefficient-part w a n i h = rw (getD-take n (drop a w) i 0 h, getD-drop)
+coefficient-segment w a n i h = rw (getD-take n (drop a w) i 0 h, getD-drop)
 
-pub length-part : (w : List ℕ) (a n : ℕ) → length (part w a n) ≤ n
-length-part w a n = rw length-take (min-le-left n (length (drop a w)))
+pub length-segment : (w : List ℕ) (a n : ℕ) → length (segment w a n) ≤ n
+length-segment w a n = rw length-take (min-le-left n (length (drop a w)))
 
 drop-take : {A : Type 0} (i n : ℕ) (l : List A) → drop i (take (i + n) l) ≡ take n (drop i l)
 drop-take zero n l = rw zero-add
 drop-take (suc i) n [] = rw (suc-add, take-nil n)
 drop-take (suc i) n (x ∷ l) = rw suc-add (drop-take i n l)
 
-pub part-part : (w : List ℕ) (a n i k : ℕ) → i + k ≤ n → part (part w a n) i k ≡ part w (a + i) k
-part-part w a n i k h =
+pub segment-segment : (w : List ℕ) (a n i k : ℕ) → i + k ≤ n → segment (segment w a n) i k ≡ segment w (a + i) k
+segment-segment w a n i k h =
     let e : n ≡ i + (n - i) = omega arith in
     rw (e, drop-take i (n - i) (drop a w), take-take k (n - i) _ (omega arith), drop-drop)
 
@@ -58,19 +58,19 @@ apart-within {w} {a} {m} {t} {n} h {b} {k} {u} {l} begins-a ends-a begins-t ends
 pub apart-length : {v w : List ℕ} {a m t n : ℕ} → length v ≡ length w → Apart w a m t n → Apart v a m t n
 apart-length e h = record { source = rw e (h .source); target = rw e (h .target); apart = h .apart }
 
-pub cleared-part : (w : List ℕ) (t n : ℕ) → t + n ≤ length w
-    → take t w ++ (cleared n (part w t n) ++ drop n (drop t w)) ≡ sets w t (replicate n 0)
+pub cleared-segment : (w : List ℕ) (t n : ℕ) → t + n ≤ length w
+    → take t w ++ (cleared n (segment w t n) ++ drop n (drop t w)) ≡ sets w t (replicate n 0)
 unfolding cleared
-cleared-part w t n h =
-    rw (drop-of-length-le (part w t n) (length-part w t n), append-nil) (sets-part w t n (replicate n 0) (length-replicate n 0) h)
+cleared-segment w t n h =
+    rw (drop-of-length-le (segment w t n) (length-segment w t n), append-nil) (sets-part w t n (replicate n 0) (length-replicate n 0) h)
 
-pub part-kept : {w : List ℕ} {a m t n : ℕ} → Apart w a m t n → (vs : List ℕ) → length vs ≤ n → part (sets w t vs) a m ≡ part w a m
-part-kept {w} {a} {m} {t} {n} h vs short = ⊎-elim before after (h .apart)
+pub segment-kept : {w : List ℕ} {a m t n : ℕ} → Apart w a m t n → (vs : List ℕ) → length vs ≤ n → segment (sets w t vs) a m ≡ segment w a m
+segment-kept {w} {a} {m} {t} {n} h vs short = ⊎-elim before after (h .apart)
   where
-    before : a + m ≤ t → part (sets w t vs) a m ≡ part w a m
+    before : a + m ≤ t → segment (sets w t vs) a m ≡ segment w a m
     before b =
         let e : a + (t - a) ≡ t = omega arith in
         rw (← e, drop-sets-inside w (t - a) vs a) (take-sets (drop a w) (t - a) vs m (omega arith))
 
-    after : t + n ≤ a → part (sets w t vs) a m ≡ part w a m
+    after : t + n ≤ a → segment (sets w t vs) a m ≡ segment w a m
     after b = ap (take m) (drop-sets w t vs a (omega arith))

@@ -1,4 +1,4 @@
--- `product::coefficient` meets its contract: the two halves hold c and the terms summed so far. Assumes nothing.
+-- `product::product_coefficient` meets its contract: the two halves hold c and the terms summed so far. Assumes nothing.
 use borrow.Author.Needs.{needs}
 use native.Mathlib.Omega.{arith}
 use Prim.Native.Nat.{ℕ, suc, _+_, _*_, _-_, _≤_, _^_}
@@ -6,8 +6,8 @@ use mathlib.Core.Path.{_≡_, _∙_}
 use Rattle.definition.specs.Lists.{coefficient}
 use Rattle.definition.specs.Substitution.{product, productTerm}
 use Rattle.product.specs.Halves.{Halves, small-product, halves-first, halves-next, halves-total, halves-low, halves-high}
-use Rattle.product.proofs.coefficient.Statement.{statement}
-use Rattle.product.proofs.coefficient.Tie as tie
+use Rattle.product.proofs.product_coefficient.Statement.{statement}
+use Rattle.product.proofs.product_coefficient.Tie as tie
 
 abbrev Inv-loop : tie.InvT-loop
 Inv-loop p c x y k low₀ high₀ i₀ low high i =
@@ -88,8 +88,8 @@ returns c =
     let all : end .loop .i ≡ suc (end .before .before .before .before .args .k) = omega arith in
     c .remainder .ensures ∙ rw (halves-total (end .loop .inv .1), all)
 
-pub coefficient-spec : {M : Type 1} → statement M
-coefficient-spec =
+pub product-coefficient-spec : {M : Type 1} → statement M
+product-coefficient-spec =
     tie.close
     (tie.spec
     Inv-loop

@@ -1,0 +1,51 @@
+#!/usr/bin/env python3
+"""Tries wrong definitions: each edit of tests/definitions/must-fail is made in a copy of the definitions, and the equations with the
+second implementation must refuse it. A wrong definition that is refused by itself shows nothing, so it must still be admitted.
+
+Usage: refused.py EQUATIONS, with the repository of the definitions and the equations that 'make definitions' wrote.
+"""
+import pathlib
+import shutil
+import subprocess
+import sys
+
+EDITS = pathlib.Path(__file__).parent / "must-fail"
+
+
+def check(room, crate):
+    """Whether the prover admits the crate, and the first error that it prints."""
+    done = subprocess.run(["rt", "check", crate], cwd=room, capture_output=True, text=True)
+    errors = [line for line in (done.stdout + done.stderr).splitlines() if ": error: " in line]
+    return done.returncode == 0, errors[0].split(": error: ")[1][:120] if errors else ""
+
+
+def refused(equations, edit):
+    """Makes the edit in a copy and says what refused it; None where nothing did."""
+    name, old, new = (line.split(": ", 1)[1] for line in edit.read_text(encoding="utf-8").splitlines())
+    room = equations.with_name("refused")
+    shutil.rmtree(room, ignore_errors=True)
+    shutil.copytree(equations, room, ignore=shutil.ignore_patterns("target"))
+    file = room / "crates" / "definition" / name
+    text = file.read_text(encoding="utf-8")
+    if text.count(old) != 1:
+        sys.exit(f"{edit.name}: its old text stands {text.count(old)} times in {name}")
+    file.write_text(text.replace(old, new), encoding="utf-8")
+    if not check(room, "definition")[0]:
+        sys.exit(f"{edit.name}: the definition is not admitted, so the edit shows nothing")
+    admitted, error = check(room, "equations")
+    return None if admitted else error
+
+
+def main():
+    equations = pathlib.Path(sys.argv[1])
+    edits = sorted(EDITS.glob("*.edit"))
+    passed = 0
+    for edit in edits:
+        error = refused(equations, edit)
+        passed += error is not None
+        print(f"{edit.stem}: {'NOT REFUSED' if error is None else 'refused: ' + error}", flush=True)
+    print(f"{passed} passed, {len(edits) - passed} failed")
+    sys.exit(0 if edits and passed == len(edits) else 1)
+
+
+main()

@@ -1,0 +1,143 @@
+//! Equations for the steps that the routes name, for the table of primes, and for what a call leaves in its buffers.
+
+use crate::plain::random::Random;
+use crate::plain::{calls, field, primes, products, refusals, render, routes};
+use crate::rows::{list, PRIMES};
+
+pub fn all(random: &mut Random) -> Vec<String> {
+    let mut equations = Vec::new();
+    for _ in 0..25 {
+        equations.extend(one_variable(random));
+        equations.extend(parts(random));
+        equations.extend(two_variables(random));
+        equations.extend(rows(random));
+        equations.push(division(random));
+        equations.push(below(random));
+        equations.push(rendering(random));
+    }
+    for _ in 0..6 {
+        equations.extend(buffers(random));
+    }
+    equations
+}
+
+/// Horner's step, the cut product, the power and the join.
+fn one_variable(random: &mut Random) -> Vec<String> {
+    let (p, n, e) = (random.pick(&PRIMES), random.count(1, 4), random.count(0, 3));
+    let [s, t, u] = [0; 3].map(|_| random.list(p, n));
+    let c = random.coefficient(p);
+    let product = products::product(p, &t, &u, n).0;
+    let power =
+        (0..e).fold(products::places(&[1], n), |power, _| products::product(p, &power, &t, n).0);
+    let step = products::sum(p, &product, &products::places(&[c], n));
+    let (ss, ts, us) = (list(&s), list(&t), list(&u));
+    vec![
+        format!("cutProduct {p} {n} {ts} {us} ≡ {}", list(&product)),
+        format!("hornerStep {p} {n} {c} {ts} {us} ≡ {}", list(&step)),
+        format!("joined {p} {n} {ss} {ts} {us} ≡ {}", list(&products::sum(p, &s, &product))),
+        format!("cutPower {p} {n} {ts} {e} ≡ {}", list(&power)),
+    ]
+}
+
+/// Blocks of route 2; parts, p-th powers and spreading of route 3.
+fn parts(random: &mut Random) -> Vec<String> {
+    let (p, n, count) = (random.pick(&PRIMES), random.count(1, 9), random.count(0, 9));
+    let (f, length) = (random.list(p, count), random.count(1, 5));
+    let (j, from) = (random.count(0, 2), random.count(0, p as usize - 1));
+    let block = f.chunks(length).nth(j).unwrap_or(&[]);
+    let part: Vec<u32> = f.iter().skip(from).step_by(p as usize).copied().collect();
+    let powers: Vec<u32> = f.iter().map(|&c| field::power(p, c, p)).collect();
+    let shown = list(&f);
+    vec![
+        format!("block {length} {j} {shown} ≡ {}", list(block)),
+        format!("part {p} {from} {shown} ≡ {}", list(&part)),
+        format!("pthPowers {p} {shown} ≡ {}", list(&powers)),
+        format!("spreadList {p} {n} {shown} ≡ {}", list(&products::spread(&f, p as usize, n))),
+    ]
+}
+
+/// A window of a product in two variables, each factor in rows of r places.
+fn two_variables(random: &mut Random) -> Vec<String> {
+    let (p, r, low, count) =
+        (random.pick(&PRIMES), random.count(1, 3), random.count(0, 2), random.count(1, 3));
+    let [a, b] = [0; 2].map(|_| vec![random.list(p, r), random.list(p, r)]);
+    let kept = products::product_in_two_variables(p, &a, &b, r, low..low + count).0;
+    let product = format!(
+        "cutProduct2At {p} (planeAt {r} {}) (planeAt {r} {})",
+        list(&a.concat()),
+        list(&b.concat())
+    );
+    vec![format!("plane {r} {count} (window {low} ({product})) ≡ {}", list(&kept.concat()))]
+}
+
+/// a(-x, y), the even powers of x, x² for x; P and Q.
+fn rows(random: &mut Random) -> Vec<String> {
+    let (p, r) = (random.pick(&PRIMES), random.count(1, 5));
+    let (row, half) = (random.list(p, r), r.div_ceil(2));
+    let even: Vec<u32> = row.iter().step_by(2).copied().collect();
+    let negated: Vec<u32> = row.iter().map(|&c| field::subtract(p, 0, c)).collect();
+    let reversed: Vec<u32> = row.iter().rev().copied().collect();
+    let denominator = [products::places(&[1], r), negated].concat();
+    let shown = list(&row);
+    vec![
+        format!(
+            "plane {r} 1 (opposite {p} (planeAt {r} {shown})) ≡ {}",
+            list(&routes::mirror(p, &row))
+        ),
+        format!("plane {half} 1 (evenPart (planeAt {r} {shown})) ≡ {}", list(&even)),
+        format!(
+            "plane {} 1 (squared (planeAt {r} {shown})) ≡ {}",
+            2 * r,
+            list(&products::spread(&row, 2, 2 * r))
+        ),
+        format!("plane {r} 2 (denominator {p} {shown}) ≡ {}", list(&denominator)),
+        format!("plane 1 {r} (numerator {shown}) ≡ {}", list(&reversed)),
+    ]
+}
+
+fn division(random: &mut Random) -> String {
+    let (p, count) = (random.pick(&PRIMES), random.count(1, 5));
+    let (a, mut b) = (random.list(p, count), random.list(p, 3));
+    b[0] = 1;
+    let quotient = products::quotient(p, &a, &b);
+    format!(
+        "quotient {p} {count} (coefficient {}) (coefficient {}) ≡ {}",
+        list(&a),
+        list(&b),
+        list(&quotient)
+    )
+}
+
+fn below(random: &mut Random) -> String {
+    let (bound, count) = (20 + random.below(40), random.count(0, 5));
+    let found: Vec<u64> = (0..bound).rev().filter(|&q| primes::is_prime(q)).take(count).collect();
+    format!("primesBelow {count} {bound} ≡ {}", list(&found))
+}
+
+fn rendering(random: &mut Random) -> String {
+    let (number, n) = (random.below(2) as u32 * 9, random.below(3));
+    let places = (n + random.below(4) / 3) as usize;
+    let coefficients = random.list(7, places);
+    let bytes = render::text(number, n, 5, &coefficients).len();
+    let text = (bytes + random.count(0, 2)).saturating_sub(1);
+    let refusal = refusals::render(number, n, 5, &coefficients, text);
+    format!("renderRefusal {number} {n} {places} {bytes} {text} ≡ {refusal}")
+}
+
+/// Output and work after a call on dirty buffers, accepted or refused.
+fn buffers(random: &mut Random) -> Vec<String> {
+    let (route, p, n) = (random.below(6), random.pick(&PRIMES), 1);
+    let (f, g) = (random.list(p, 2), random.list(p, 2));
+    let places = refusals::work_places(n, f.len()) as usize + random.count(0, 3) - 1;
+    let (before, work_before) = (random.buffer(1), random.buffer(places));
+    let (mut out, mut work) = (before.clone(), work_before.clone());
+    let answer = calls::compose(route, p, n, &f, &g, &mut out, &mut work);
+    let (fs, gs) = (list(&f), list(&g));
+    let number = format!("(composeRefusal {route} {p} {n} {fs} {gs} 1 {places})");
+    let old = list(&work_before);
+    vec![
+        format!("kept {number} (composed {p} {n} {fs} {gs}) {} ≡ {}", list(&before), list(&out)),
+        format!("kept {number} (cleared (composeWork {n} 2) {old}) {old} ≡ {}", list(&work)),
+        format!("answered {number} (weight {route} {p} {n} 2) ≡ {}", answer.weight),
+    ]
+}
