@@ -1,0 +1,8 @@
+-- The contracts of route 2 and the laws behind them.
+--
+--   Spans    the parts of the outer list that the joins are about
+--   Powers   products of powers of the inner list
+--   Weights  the number of products
+pub mod Spans
+pub mod Powers
+pub mod Weights

@@ -1,0 +1,1 @@
+// Route 2, ranged Horner.
