@@ -23,15 +23,16 @@
 --   length-cleared      clearing keeps the length
 --   cleared-written     clearing what was written clears what was there before
 --   cleared-cleared     clearing twice
+--   cleared-part        a part lent from place t on and come back cleared
 -- Assumes nothing.
 use Prim.Native.Nat.{ℕ, suc, _+_, _-_, _<_, _≤_}
-use native.Mathlib.Nat.{add-zero, zero-add, add-suc, suc-add}
+use native.Mathlib.Nat.{add-zero, zero-add, add-suc, suc-add, le-of-eq}
 use native.Mathlib.Numerals.{add-one}
 use native.Mathlib.Omega.{arith}
 use mathlib.Core.Logic.{_≢_}
 use mathlib.Core.Path.{_≡_, refl, sym, ap, _∙_}
 use mathlib.Core.List.{List, [], _∷_, _++_, append-assoc, append-nil}
-use lib.ListN.{length, getD, take, drop, set, replicate, length-drop, length-replicate, take-append-drop}
+use lib.ListN.{length, getD, take, drop, set, replicate, length-drop, length-replicate, take-append-drop, drop-of-length-le}
 use lib.Seq.{sets, sets-eq, length-sets, set-comm, set-set, take-set-le, drop-set-lt, take-set-lt, drop-set-add, getD-set-other, drop-drop, drop-at, length-take-le, take-append-seam, getD-drop, getD-take, drop-length, take-suc}
 use Rattle.definition.specs.Answer.{cleared}
 
@@ -153,3 +154,10 @@ cleared-written k w i vs h = rw (drop-sets w i vs k h)
 pub cleared-cleared : (j k : ℕ) (w : List ℕ) → j ≤ k → k ≤ length w → cleared k (cleared j w) ≡ cleared k w
 cleared-cleared j k w h b =
     rw (cleared-sets j w (omega arith)) (cleared-written k w 0 (replicate j 0) (rw length-replicate (omega arith)))
+
+pub cleared-part : (w : List ℕ) (t n : ℕ) → t + n ≤ length w
+    → take t w ++ (cleared n (take n (drop t w)) ++ drop n (drop t w)) ≡ sets w t (replicate n 0)
+unfolding cleared
+cleared-part w t n h =
+    let size : length (take n (drop t w)) ≡ n = length-part w t n h in
+    rw (drop-of-length-le (take n (drop t w)) (le-of-eq size), append-nil) (sets-part w t n (replicate n 0) (length-replicate n 0) h)

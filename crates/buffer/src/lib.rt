@@ -2,7 +2,7 @@
 ghost use mathlib.Core.Path.{_≡_};
 ghost use mathlib.Core.List.{_++_};
 ghost use Prim.Native.Nat.{_+_, _≤_};
-ghost use lib.ListN.{length, take, drop};
+ghost use lib.ListN.{length, take, drop, replicate};
 ghost use lib.Seq.{sets};
 ghost use Rattle.definition.specs.Answer.{cleared};
 ghost use Rattle.definition.specs.Refusal.{exceeds};
@@ -17,6 +17,15 @@ pub fn clear(w: &mut [u32], k: usize)
         w[i] = 0;
         i += 1;
     }
+}
+
+// Sets the `n` places from `t` on to zero.
+pub fn clear_part(w: &mut [u32], t: usize, n: usize)
+    requires { ⌜ t + n ≤ length (now w) ⌝ }
+    ensures { λ r. ⌜ now (w .exit) ≡ sets (now (w .entry)) t (replicate n 0) ⌝ }
+{
+    let end = t + n;
+    clear(&mut w[t..end], n);
 }
 
 // Writes `src` from place 0 of `dst`; later places stay.

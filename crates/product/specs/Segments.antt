@@ -5,7 +5,6 @@
 --   coefficient-segment   a place of a segment
 --   length-segment        its length
 --   segment-segment       a segment of a segment
---   cleared-segment       a segment that was lent, came back cleared
 --   segment-kept          a segment is as it was after a write apart from it
 --   apart-within          segments of two segments that lie apart lie apart
 --   apart-length          and they do so in every list of that length
@@ -15,11 +14,10 @@ use native.Mathlib.Nat.{min-le-left, suc-add, zero-add}
 use native.Mathlib.Omega.{arith}
 use mathlib.Core.Path.{_≡_, ap}
 use mathlib.Core.Logic.{_⊎_, inl, inr, ⊎-elim}
-use mathlib.Core.List.{List, [], _∷_, _++_, append-nil}
-use lib.ListN.{length, take, drop, replicate, length-take, length-replicate, drop-of-length-le}
+use mathlib.Core.List.{List, [], _∷_}
+use lib.ListN.{length, take, drop, length-take}
 use lib.Seq.{sets, drop-drop, getD-drop, getD-take, take-nil, take-take}
-use Rattle.buffer.specs.Written.{drop-sets, drop-sets-inside, sets-part, take-sets}
-use Rattle.definition.specs.Answer.{cleared}
+use Rattle.buffer.specs.Written.{drop-sets, drop-sets-inside, take-sets}
 use Rattle.definition.specs.Lists.{coefficient}
 
 abbrev pub segment : List ℕ → ℕ → ℕ → List ℕ
@@ -57,12 +55,6 @@ apart-within {w} {a} {m} {t} {n} h {b} {k} {u} {l} begins-a ends-a begins-t ends
 
 pub apart-length : {v w : List ℕ} {a m t n : ℕ} → length v ≡ length w → Apart w a m t n → Apart v a m t n
 apart-length e h = record { source = rw e (h .source); target = rw e (h .target); apart = h .apart }
-
-pub cleared-segment : (w : List ℕ) (t n : ℕ) → t + n ≤ length w
-    → take t w ++ (cleared n (segment w t n) ++ drop n (drop t w)) ≡ sets w t (replicate n 0)
-unfolding cleared
-cleared-segment w t n h =
-    rw (drop-of-length-le (segment w t n) (length-segment w t n), append-nil) (sets-part w t n (replicate n 0) (length-replicate n 0) h)
 
 pub segment-kept : {w : List ℕ} {a m t n : ℕ} → Apart w a m t n → (vs : List ℕ) → length vs ≤ n → segment (sets w t vs) a m ≡ segment w a m
 segment-kept {w} {a} {m} {t} {n} h vs short = ⊎-elim before after (h .apart)

@@ -64,21 +64,12 @@ pub fn multiply_add(p: u32, n: usize, w: &mut [u32], a: usize, b: usize, t: usiz
     n as u64
 }
 
-// Sets the n places from t on to zero.
-fn clear_part(w: &mut [u32], t: usize, n: usize)
-    requires { ⌜ t + n ≤ length (now w) ⌝ }
-    ensures { λ r. ⌜ now (w .exit) ≡ sets (now (w .entry)) t (replicate n 0) ⌝ }
-{
-    let end = t + n;
-    buffer::clear(&mut w[t..end], n);
-}
-
 // The n places from t on become A B modulo p, cut to n places, where A and B are the n places from a and from b on.
 pub fn multiply(p: u32, n: usize, w: &mut [u32], a: usize, b: usize, t: usize) -> u64
     requires { ⌜ Operands p n a b t (now w) ⌝ }
     ensures { λ r. ⌜ Multiplied p n a b t (now (w .entry)) (now (w .exit)) r ⌝ }
 {
-    clear_part(w, t, n);
+    buffer::clear_part(w, t, n);
     multiply_add(p, n, w, a, b, t)
 }
 
@@ -101,7 +92,7 @@ fn multiply_row(p: u32, r: usize, w: &mut [u32], a: Rows, b: Rows, j: usize, t: 
     requires { ⌜ RowOperands p r a b t r (now w) × (j + 1 < 2 ^ 64) ⌝ }
     ensures { λ _. ⌜ now (w .exit) ≡ sets (now (w .entry)) t (tabulate r (productOf p r a b (now (w .entry)) j)) ⌝ }
 {
-    clear_part(w, t, r);
+    buffer::clear_part(w, t, r);
     let end = smaller(j + 1, a.count);
     let mut l = excess(j + 1, b.count);
     while l < end {

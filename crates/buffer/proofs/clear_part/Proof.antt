@@ -1,9 +1,9 @@
--- `product::clear_part` meets its contract: the part that is lent comes back cleared. Assumes nothing.
+-- `buffer::clear_part` meets its contract: the part that is lent comes back cleared. Assumes nothing.
 use borrow.Author.Needs.{needs}
 use native.Mathlib.Nat.{add-sub-cancel-left}
-use Rattle.product.specs.Segments.{cleared-segment}
-use Rattle.product.proofs.clear_part.Statement.{statement}
-use Rattle.product.proofs.clear_part.Tie as tie
+use Rattle.buffer.specs.Written.{cleared-part}
+use Rattle.buffer.proofs.clear_part.Statement.{statement}
+use Rattle.buffer.proofs.clear_part.Tie as tie
 
 add-end : tie.Need-add-end
 add-end c = search needs
@@ -27,7 +27,7 @@ same-length : tie.Need-same-length
 same-length c = search needs
 
 returns : tie.Need-returns
-returns c = rw (c .before .before .clear .ensures, add-sub-cancel-left) (cleared-segment _ _ _ (c .before .before .before .before .before .pre))
+returns c = rw (c .before .before .clear .ensures, add-sub-cancel-left) (cleared-part _ _ _ (c .before .before .before .before .before .pre))
 
 pub clear-part-spec : {M : Type 1} → statement M
 clear-part-spec =

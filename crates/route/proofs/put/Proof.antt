@@ -1,0 +1,71 @@
+-- `route::put` meets its contract: after k turns the first k places are written. Assumes nothing.
+use borrow.Author.Needs.{needs}
+use native.Mathlib.Omega.{arith}
+use Prim.Native.Nat.{_-_, _≤_}
+use lib.ListN.{length}
+use lib.Seq.{sets}
+use mathlib.Core.Path.{_≡_, _∙_}
+use Rattle.definition.specs.Lists.{coefficient, tabulate}
+use Rattle.route.specs.Table.{table-first, table-next}
+use Rattle.route.proofs.put.Statement.{statement}
+use Rattle.route.proofs.put.Tie as tie
+
+abbrev Inv-loop : tie.InvT-loop
+Inv-loop l n w₀ t k₀ w k = (k ≤ n) × (length w ≡ length w₀) × (w ≡ sets w₀ t (tabulate k (coefficient l)))
+
+abbrev μ-loop : tie.MeasureT-loop
+μ-loop l n w₀ t k₀ w k = n - k
+
+loop-holds : tie.Need-loop-holds Inv-loop μ-loop
+loop-holds c = (search needs, search needs, table-first _ _ _)
+
+place-requires : tie.Need-place-requires Inv-loop μ-loop
+place-requires c κs = search needs
+
+add-w : tie.Need-add-w Inv-loop μ-loop
+add-w c = search needs
+
+mul-w : tie.Need-mul-w Inv-loop μ-loop
+mul-w c = search needs
+
+slice-write-w : tie.Need-slice-write-w Inv-loop μ-loop
+slice-write-w c = search needs
+
+add-k : tie.Need-add-k Inv-loop μ-loop
+add-k c = search needs
+
+loop-less : tie.Need-loop-less Inv-loop μ-loop
+loop-less c = search needs
+
+loop-again : tie.Need-loop-again Inv-loop μ-loop
+loop-again c =
+    let at = c .before .before in (
+      search needs,
+      search needs,
+      rw (c .place .ensures, at .loop .inv .2) (table-next _ _ _ (at .loop .k)),
+    )
+
+same-length : tie.Need-same-length Inv-loop μ-loop
+same-length c = search needs
+
+returns : tie.Need-returns Inv-loop μ-loop
+returns c =
+    let all : c .before .loop .k ≡ c .before .before .before .before .args .n = omega arith in
+    c .before .loop .inv .2 ∙ rw all
+
+pub put-spec : {M : Type 1} → statement M
+put-spec =
+    tie.close
+    (tie.spec
+    Inv-loop
+    μ-loop
+    loop-holds
+    place-requires
+    add-w
+    mul-w
+    slice-write-w
+    add-k
+    loop-less
+    loop-again
+    same-length
+    returns)

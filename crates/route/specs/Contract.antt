@@ -1,0 +1,50 @@
+-- The contract of a route: f(g) modulo x^n with the weight of its rule, and the work buffer cleared.
+--
+--   Lent p n f out w     what every route requires of the modulus, the order, the outer list and the buffers lent to it
+--   Route                what every route ensures
+--   Finished             the contract of `finish`
+--   copied-segment       a segment that is copied over a whole list
+--   route-finished       a route that leaves f(g) at place t of the work buffer, and then finishes
+-- Assumes nothing.
+use Prim.Native.Nat.{ℕ, _+_, _-_, _<_, _≤_}
+use native.Mathlib.Nat.{add-sub-cancel-left}
+use mathlib.Core.Path.{_≡_, _∙_}
+use mathlib.Core.List.{List, _++_, append-nil}
+use lib.ListN.{length, take, drop}
+use lib.Seq.{drop-length}
+use Rattle.buffer.specs.Written.{length-part}
+use Rattle.definition.specs.Answer.{cleared}
+use Rattle.definition.specs.Refusal.{composeWork}
+use Rattle.definition.specs.Substitution.{composed}
+use Rattle.product.specs.Segments.{segment}
+use Rattle.route.specs.Within.{Within, cleared-within}
+
+pub record Lent (p n : ℕ) (f out w : List ℕ) : Type 0 where
+  pub modulus : 0 < p
+  pub positive : 0 < n
+  pub order : n ≤ 4096
+  pub outer : length f ≤ 4096
+  pub output : length out ≡ n
+  pub work : composeWork n (length f) ≤ length w
+
+pub record Route (p n : ℕ) (f g : List ℕ) (weight : ℕ) (out before after : List ℕ) (result : ℕ) : Type 0 where
+  pub output : out ≡ composed p n f g
+  pub sum : result ≡ weight
+  pub work : after ≡ cleared (composeWork n (length f)) before
+
+pub record Finished (t k : ℕ) (before after out out′ : List ℕ) : Type 0 where
+  pub output : out′ ≡ segment before t (length out)
+  pub work : after ≡ cleared k before
+
+pub copied-segment : (w : List ℕ) (t : ℕ) (out : List ℕ) → t + length out ≤ length w
+    → (let part = take (t + length out - t) (drop t w) in part ++ drop (length part) out) ≡ segment w t (length out)
+copied-segment w t out h = rw (add-sub-cancel-left, length-part w t (length out) h, drop-length, append-nil)
+
+pub route-finished : {p n : ℕ} {f g : List ℕ} {weight t : ℕ} {out out′ before then after : List ℕ} {result : ℕ}
+    → Within 0 (composeWork n (length f)) before then → segment then t n ≡ composed p n f g → result ≡ weight → length out ≡ n
+    → Finished t (composeWork n (length f)) then after out out′ → Route p n f g weight out′ before after result
+route-finished {t = t} {then = then} within value sum size done = record {
+  output = done .output ∙ rw size value;
+  sum = sum;
+  work = done .work ∙ cleared-within within;
+}

@@ -1,0 +1,45 @@
+// What the four routes share: lists put into the work buffer, the answer taken out of it, and the contract of a route (specs).
+ghost use mathlib.Core.Path.{_≡_};
+ghost use Prim.Native.Nat.{_+_, _≤_};
+ghost use lib.ListN.{length};
+ghost use lib.Seq.{sets};
+ghost use Rattle.definition.specs.Lists.{coefficient, tabulate};
+ghost use Rattle.definition.specs.Refusal.{composeWork};
+ghost use Rattle.route.specs.Contract.{Finished};
+
+// Coefficient k of a list: 0 past its end.
+pub fn place(l: &[u32], k: usize) -> u32
+    ensures { λ r. ⌜ r ≡ coefficient (now (l .entry)) k ⌝ }
+{
+    if k < l.len() { l[k] } else { 0 }
+}
+
+// Writes the first n places of a list, with zeros where it is shorter, from place t of w on.
+pub fn put(l: &[u32], n: usize, w: &mut [u32], t: usize)
+    requires { ⌜ t + n ≤ length (now w) ⌝ }
+    ensures { λ _. ⌜ now (w .exit) ≡ sets (now (w .entry)) t (tabulate n (coefficient (now (l .entry)))) ⌝ }
+{
+    let mut k = 0;
+    while k < n {
+        w[t + k] = place(l, k);
+        k += 1;
+    }
+}
+
+// Writes the places of w from t on into `out`, and clears the first k places of w.
+pub fn finish(w: &mut [u32], t: usize, out: &mut [u32], k: usize)
+    requires { ⌜ (t + length (now out) ≤ length (now w)) × (k ≤ length (now w)) ⌝ }
+    ensures { λ _. ⌜ Finished t k (now (w .entry)) (now (w .exit)) (now (out .entry)) (now (out .exit)) ⌝ }
+{
+    let end = t + out.len();
+    buffer::copy(&w[t..end], out);
+    buffer::clear(w, k);
+}
+
+// The places of work that a composition is lent.
+pub fn work_places(n: usize, m: usize) -> usize
+    requires { ⌜ (n ≤ 4096) × (m ≤ 4096) ⌝ }
+    ensures { λ r. ⌜ r ≡ composeWork n m ⌝ }
+{
+    128 * n + 8 * m
+}
