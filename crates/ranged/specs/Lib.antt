@@ -3,6 +3,8 @@
 --   Spans    the parts of the outer list that the joins are about
 --   Powers   products of powers of the inner list
 --   Weights  the number of products
+--   Kept     powers of the inner list kept in the work buffer
 pub mod Spans
 pub mod Powers
 pub mod Weights
+pub mod Kept

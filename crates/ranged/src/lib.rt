@@ -1,1 +1,73 @@
-// Route 2, ranged Horner.
+// Route 2, ranged Horner (document 004, Algorithm 2): blocks of the outer list by Horner, joined in pairs with powers of the inner list.
+// The inner list stands at place 0 of the work buffer, its powers after it. The joins go depth first, so that few results are kept.
+ghost use mathlib.Core.Path.{_≡_};
+ghost use Prim.Native.Nat.{_+_, _*_, _^_, _<_, _≤_, min};
+ghost use Rattle.definition.specs.Lists.{ceilDiv};
+ghost use Rattle.definition.specs.Ranged.{blockLength};
+ghost use Rattle.definition.specs.Weight.{halvings};
+ghost use Rattle.ranged.specs.Kept.{BasePower, PowerOperands, Powers, Squares};
+
+// The n places from n on become G^4 modulo p, cut to n places, where G are the first n places. The n places after them are used.
+fn fourth_power(p: u32, n: usize, w: &mut [u32]) -> u64
+    requires { ⌜ PowerOperands p n 1 (now w) ⌝ }
+    ensures { λ r. ⌜ BasePower p n blockLength (now (w .entry)) (now (w .exit)) r ⌝ }
+{
+    let weight = product::multiply(p, n, w, 0, 0, 2 * n);
+    weight + product::multiply(p, n, w, 2 * n, 2 * n, n)
+}
+
+// The power at place n is squared, and the square squared, until there are as many powers as rounds, one after the other.
+fn squares(p: u32, n: usize, rounds: usize, w: &mut [u32]) -> u64
+    requires { ⌜ PowerOperands p n rounds (now w) × (0 < rounds) ⌝ }
+    ensures { λ r. ⌜ Squares p n rounds (now (w .entry)) (now (w .exit)) r ⌝ }
+{
+    let mut weight: u64 = 0;
+    let mut i = 1;
+    while i < rounds {
+        weight += product::multiply(p, n, w, i * n, i * n, (i + 1) * n);
+        i += 1;
+    }
+    weight
+}
+
+// The powers of the inner list that so many rounds of joins need: none where there is nothing to join.
+fn powers(p: u32, n: usize, rounds: usize, w: &mut [u32]) -> u64
+    requires { ⌜ PowerOperands p n rounds (now w) ⌝ }
+    ensures { λ r. ⌜ Powers p n blockLength rounds (now (w .entry)) (now (w .exit)) r ⌝ }
+{
+    if rounds == 0 {
+        return 0;
+    }
+    let weight = fourth_power(p, n, w);
+    weight + squares(p, n, rounds, w)
+}
+
+// The number of rounds in which m places, in blocks of b, are joined.
+fn rounds(m: usize, b: usize) -> usize
+    requires { ⌜ (m ≤ 4096) × (0 < b) × (b ≤ 64) ⌝ }
+    ensures { λ r. ⌜ r ≡ halvings (ceilDiv m b) ⌝ }
+{
+    let blocks = (m + (b - 1)) / b;
+    if blocks <= 1 {
+        0
+    } else {
+        64 - usize::leading_zeros(blocks - 1) as usize
+    }
+}
+
+// 2^level
+fn power_of_two(level: usize) -> usize
+    requires { ⌜ level ≤ 12 ⌝ }
+    ensures { λ r. ⌜ r ≡ 2 ^ level ⌝ }
+{
+    1 << level
+}
+
+// The place after the last of block j of a list of m places.
+fn block_end(b: usize, j: usize, m: usize) -> usize
+    requires { ⌜ b * j + b < 2 ^ 64 ⌝ }
+    ensures { λ r. ⌜ r ≡ min (b * j + b) m ⌝ }
+{
+    let end = b * j + b;
+    if m < end { m } else { end }
+}
