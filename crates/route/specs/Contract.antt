@@ -4,19 +4,24 @@
 --   Route                what every route ensures
 --   Finished             the contract of `finish`
 --   copied-segment       a segment that is copied over a whole list
+--   put-composed         f composed with what `put` wrote is f composed with g
 --   route-finished       a route that leaves f(g) at place t of the work buffer, and then finishes
 -- Assumes nothing.
 use Prim.Native.Nat.{ℕ, _+_, _-_, _<_, _≤_}
-use native.Mathlib.Nat.{add-sub-cancel-left}
+use native.Mathlib.Nat.{add-sub-cancel-left, zero-add}
 use mathlib.Core.Path.{_≡_, _∙_}
 use mathlib.Core.List.{List, _++_, append-nil}
 use lib.ListN.{length, take, drop}
-use lib.Seq.{drop-length}
+use lib.Seq.{sets, drop-length}
+use Rattle.algebra.specs.Composition.{composed-agree}
+use Rattle.algebra.specs.Lists.{coefficient-tabulate}
 use Rattle.buffer.specs.Written.{length-part}
 use Rattle.definition.specs.Answer.{cleared}
+use Rattle.definition.specs.Lists.{coefficient, tabulate}
 use Rattle.definition.specs.Refusal.{composeWork}
 use Rattle.definition.specs.Substitution.{composed}
 use Rattle.product.specs.Segments.{segment}
+use Rattle.route.specs.Table.{written-table}
 use Rattle.route.specs.Within.{Within, cleared-within}
 
 pub record Lent (p n : ℕ) (f out w : List ℕ) : Type 0 where
@@ -48,3 +53,9 @@ route-finished {t = t} {then = then} within value sum size done = record {
   sum = sum;
   work = done .work ∙ cleared-within within;
 }
+
+pub put-composed : {p n : ℕ} (f g w v : List ℕ) → 0 < p → n ≤ length w → v ≡ sets w 0 (tabulate n (coefficient g))
+    → composed p n f (segment v 0 n) ≡ composed p n f g
+put-composed {p} {n} f g w v positive fits put =
+    rw (put, written-table w 0 (coefficient g) n (rw zero-add fits))
+    (composed-agree positive n f (tabulate n (coefficient g)) g (λ k b. coefficient-tabulate n (coefficient g) k b))
