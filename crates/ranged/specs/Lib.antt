@@ -4,7 +4,9 @@
 --   Powers   products of powers of the inner list
 --   Weights  the number of products
 --   Kept     powers of the inner list kept in the work buffer
+--   Joins    spans composed in the work buffer, and joined
 pub mod Spans
 pub mod Powers
 pub mod Weights
 pub mod Kept
+pub mod Joins

@@ -4,15 +4,18 @@
 --   span-block           at level 0 it is block j
 --   span-split           one level up it is two spans, one after the other
 --   span-alone           or the first of them alone, where no block begins after it
+--   block-part           block j, as the part of f from place b j up to the end of the block or of f
+--   length-block length-span   they are not longer than f
 --   span-whole           from block 0 on, at the level of the number of halvings of the number of blocks, it is the whole list
 --   span-composed        where a block begins after the first span, the two compositions join to that of the span one level up
 --   span-weight          and their weights with that of the product that joins them are the weight of that span
 -- Assumes nothing.
-use Prim.Native.Nat.{ℕ, suc, _+_, _-_, _*_, _^_, _<_, _≤_}
+use Prim.Native.Nat.{ℕ, suc, _+_, _-_, _*_, _^_, _<_, _≤_, min}
+use native.Mathlib.Decide.{decLt}
 use native.Mathlib.Nat.{add-mul, le-trans, mul-add, mul-comm, mul-le-mul-left, mul-one, mul-pos, mul-zero, one-mul, pow-zero}
 use native.Mathlib.Omega.{arith}
 use mathlib.Core.List.{List, _++_, append-nil}
-use mathlib.Core.Path.{_≡_}
+use mathlib.Core.Path.{_≡_, sym, _∙_}
 use lib.ListN.{length, take, drop, length-append, length-drop, length-take, drop-of-length-le}
 use lib.Pow.{pow-pos}
 use lib.Seq.{drop-drop, length-take-le, take-add, take-all, take-nil}
@@ -38,6 +41,30 @@ module _ (b : ℕ) (f : List ℕ) where
   pub span-block : (j : ℕ) → span b 0 j f ≡ block b j f
   unfolding span block
   span-block j = rw (pow-zero, mul-one)
+
+  -- the part of f that is handed to Horner, up to the end of the block or of f
+  pub block-part : (j : ℕ) → b * j ≤ length f → take (min (b * j + b) (length f) - b * j) (drop (b * j) f) ≡ block b j f
+  unfolding block
+  block-part j begins = go (decLt (length f) (b * j + b))
+    where
+      size : length (drop (b * j) f) ≡ length f - b * j
+      size = length-drop (b * j) f
+
+      go : Dec (length f < b * j + b) → take (min (b * j + b) (length f) - b * j) (drop (b * j) f) ≡ take b (drop (b * j) f)
+      go (yes short) =
+          take-all (min (b * j + b) (length f) - b * j) (drop (b * j) f) (omega (arith, size))
+          ∙ sym (take-all b (drop (b * j) f) (omega (arith, size)))
+      go (no full) =
+          let whole : min (b * j + b) (length f) - b * j ≡ b = omega arith in
+          rw whole
+
+  pub length-span : (level j : ℕ) → length (span b level j f) ≤ length f
+  unfolding span
+  length-span level j = rw (length-take, length-drop) (omega arith)
+
+  pub length-block : (j : ℕ) → length (block b j f) ≤ length f
+  unfolding block
+  length-block j = rw (length-take, length-drop) (omega arith)
 
   pub span-whole : 0 < b → span b (halvings (ceilDiv (length f) b)) 0 f ≡ f
   unfolding span

@@ -1,11 +1,18 @@
 // Route 2, ranged Horner (document 004, Algorithm 2): blocks of the outer list by Horner, joined in pairs with powers of the inner list.
 // The inner list stands at place 0 of the work buffer, its powers after it. The joins go depth first, so that few results are kept.
 ghost use mathlib.Core.Path.{_≡_};
+ghost use lib.ListN.{length};
 ghost use Prim.Native.Nat.{_+_, _*_, _^_, _<_, _≤_, min};
 ghost use Rattle.definition.specs.Lists.{ceilDiv};
-ghost use Rattle.definition.specs.Ranged.{blockLength};
-ghost use Rattle.definition.specs.Weight.{halvings};
+ghost use Rattle.definition.specs.Ranged.{block, blockLength};
+ghost use Rattle.definition.specs.Weight.{halvings, rangedWeight};
+ghost use Rattle.horner.specs.Part.{Part};
+ghost use Rattle.route.specs.Contract.{Lent, Route};
+ghost use Rattle.ranged.specs.Joins.{SpanOperands, SpanPart};
 ghost use Rattle.ranged.specs.Kept.{BasePower, PowerOperands, Powers, Squares};
+
+// The number of places of a block.
+const BLOCK_LENGTH: usize = 4;
 
 // The n places from n on become G^4 modulo p, cut to n places, where G are the first n places. The n places after them are used.
 fn fourth_power(p: u32, n: usize, w: &mut [u32]) -> u64
@@ -70,4 +77,57 @@ fn block_end(b: usize, j: usize, m: usize) -> usize
 {
     let end = b * j + b;
     if m < end { m } else { end }
+}
+
+// The n places from t on become f's block j at G modulo p and x^n, by Horner, where G are the first n places. The n places after them are used.
+fn compose_block(p: u32, n: usize, b: usize, f: &[u32], j: usize, w: &mut [u32], t: usize) -> u64
+    requires { ⌜ SpanOperands p n b 0 j t (now f) (now w) ⌝ }
+    ensures { λ r. ⌜ Part p n (block b j (now (f .entry))) 0 t (now (w .entry)) (now (w .exit)) r ⌝ }
+{
+    let start = b * j;
+    let end = block_end(b, j, f.len());
+    horner::horner_part(p, n, &f[start..end], w, 0, t)
+}
+
+// The n places from t on become the part of f from block j on, at most 2^level blocks long, at G modulo p and x^n, where G are the first n
+// places and their powers follow them. The even half at t joins with the odd half at t + n; without partner it passes on. Gives the weight.
+fn compose_span(
+    p: u32,
+    n: usize,
+    b: usize,
+    f: &[u32],
+    level: usize,
+    j: usize,
+    w: &mut [u32],
+    t: usize,
+) -> u64
+    requires { ⌜ SpanOperands p n b level j t (now f) (now w) ⌝ }
+    ensures { λ r. ⌜ SpanPart p n b level j t (now (f .entry)) (now (w .entry)) (now (w .exit)) r ⌝ }
+{
+    if level == 0 {
+        return compose_block(p, n, b, f, j, w, t);
+    }
+    let below = level - 1;
+    let even = compose_span(p, n, b, f, below, j, w, t);
+    let next = j + power_of_two(below);
+    if f.len() <= b * next {
+        return even;
+    }
+    let odd = compose_span(p, n, b, f, below, next, w, t + n);
+    even + odd + product::multiply_add(p, n, w, t + n, level * n, t)
+}
+
+// Route 2: f(g) modulo x^n.
+pub fn ranged(p: u32, n: usize, f: &[u32], g: &[u32], out: &mut [u32], w: &mut [u32]) -> u64
+    requires { ⌜ Lent p n (now f) (now out) (now w) ⌝ }
+    ensures { λ r. ⌜ Route p n (now (f .entry)) (now (g .entry)) (rangedWeight blockLength n (length (now (f .entry)))) (now (out .exit)) (now (w .entry)) (now (w .exit)) r ⌝ }
+{
+    let places = route::work_places(n, f.len());
+    let levels = rounds(f.len(), BLOCK_LENGTH);
+    let t = (levels + 1) * n;
+    route::put(g, n, w, 0);
+    let weight = powers(p, n, levels, w);
+    let sum = weight + compose_span(p, n, BLOCK_LENGTH, f, levels, 0, w, t);
+    route::finish(w, t, out, places);
+    sum
 }
