@@ -5,8 +5,10 @@
 --   Weights  the number of products
 --   Kept     powers of the inner list kept in the work buffer
 --   Joins    spans composed in the work buffer, and joined
+--   Whole    the route as a whole
 pub mod Spans
 pub mod Powers
 pub mod Weights
 pub mod Kept
 pub mod Joins
+pub mod Whole

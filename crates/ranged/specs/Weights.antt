@@ -3,16 +3,19 @@
 --   powersProducts b rounds   the products that form the powers g^b, g^(2b), g^(4b) and on, one for each round of joins
 --   join-products             k blocks, k above 1, are joined by k - 1 products, with a squaring before each round but the first
 --   ranged-weight             the weight of route 2: that of route 1, and the products that form the powers
+--   few-rounds                at most 4096 places are joined in at most 12 rounds
+--   few-products              then few products form the powers
 -- Assumes nothing.
 use Prim.Native.Nat.{ℕ, zero, suc, _+_, _-_, _*_, _<_, _≤_}
 use native.Mathlib.Decide.{decLt}
 use native.Mathlib.Nat.{add-mul, le-refl, mul-le-mul-left, zero-mul}
-use native.Mathlib.Omega.{arith}
+use native.Mathlib.Omega.{arith, by-contra}
 use mathlib.Core.Bool.{cond}
 use mathlib.Core.Path.{_≡_}
 use borrow.Author.Tests.{le-leb, lt-leb}
+use lib.Count.{ones-le}
 use lib.Dec.{leb}
-use Rattle.algebra.specs.Halvings.{halvings-1, halvings-suc}
+use Rattle.algebra.specs.Halvings.{halvings-1, halvings-least, halvings-suc}
 use Rattle.algebra.specs.Lists.{ceilDiv-below}
 use Rattle.definition.specs.Lists.{ceilDiv}
 use Rattle.definition.specs.Weight.{halvings, hornerWeight, joinProducts, powerProducts, rangedProducts, rangedWeight}
@@ -56,3 +59,13 @@ module _ (b m : ℕ) (positive : 0 < b) where
   pub ranged-weight : (n : ℕ) → rangedWeight b n m ≡ hornerWeight n m + powersProducts b (halvings (ceilDiv m b)) * n
   unfolding rangedWeight hornerWeight
   ranged-weight n = rw (ranged-products, add-mul)
+
+  pub few-rounds : m ≤ 4096 → halvings (ceilDiv m b) ≤ 12
+  few-rounds short =
+      by-contra (halvings (ceilDiv m b)) 12 λ many.
+          omega (arith, ceilDiv-below positive m 4096 .0 (halvings-least (ceilDiv m b) 12 many), mul-le-mul-left 4096 positive)
+
+pub few-products : (b rounds : ℕ) → b ≤ 64 → rounds ≤ 12 → powersProducts b rounds ≤ 50
+unfolding powersProducts powerProducts
+few-products b zero limit few = omega arith
+few-products b (suc rounds) limit few = omega (arith, ones-le 7 b (omega arith))
