@@ -9,13 +9,13 @@
 --   holds-next                one power more, by squaring the last
 --   holds-within              a change after the powers keeps them
 -- Assumes nothing.
-use Prim.Native.Nat.{ℕ, zero, suc, suc-le-suc, _+_, _-_, _*_, _^_, _<_, _≤_}
+use Prim.Native.Nat.{ℕ, zero, suc, _+_, _-_, _*_, _^_, _<_, _≤_}
 use native.Mathlib.Decide.{ℕ-discrete}
 use native.Mathlib.Nat.{add-mul, le-refl, le-trans, mul-le-mul, mul-le-mul-right, mul-one, suc-mul, one-mul}
 use native.Mathlib.Numerals.{add-one}
 use native.Mathlib.Omega.{arith}
 use mathlib.Core.List.{List}
-use mathlib.Core.Logic.{_⊎_, inl}
+use mathlib.Core.Logic.{inl}
 use mathlib.Core.Path.{_≡_, ap, _∙_}
 use lib.Count.{leadingZeros, ones, onesIn}
 use lib.ListN.{length}

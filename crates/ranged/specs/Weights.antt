@@ -63,7 +63,7 @@ module _ (b m : ℕ) (positive : 0 < b) where
   pub few-rounds : m ≤ 4096 → halvings (ceilDiv m b) ≤ 12
   few-rounds short =
       by-contra (halvings (ceilDiv m b)) 12 λ many.
-          omega (arith, ceilDiv-below positive m 4096 .0 (halvings-least (ceilDiv m b) 12 many), mul-le-mul-left 4096 positive)
+      omega (arith, ceilDiv-below positive m 4096 .0 (halvings-least (ceilDiv m b) 12 many), mul-le-mul-left 4096 positive)
 
 pub few-products : (b rounds : ℕ) → b ≤ 64 → rounds ≤ 12 → powersProducts b rounds ≤ 50
 unfolding powersProducts powerProducts

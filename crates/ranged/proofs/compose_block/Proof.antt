@@ -2,53 +2,36 @@
 use borrow.Author.Needs.{needs}
 use Rattle.ranged.specs.Joins.{part-operands}
 use Rattle.ranged.specs.Spans.{block-part}
-use native.Mathlib.Omega.{arith}
-use Prim.Native.Nat.{ℕ, _+_, _*_, _-_, _<_, _≤_, _%_}
-use lib.ListN.{length, getD, take, drop, set}
-use mathlib.Core.Path.{_≡_, refl, sym, ap, _∙_}
 use Rattle.ranged.proofs.compose_block.Statement.{statement}
 use Rattle.ranged.proofs.compose_block.Tie as tie
-use Rattle.ranged.proofs.compose_block.Reads as reads
-use Rattle.ranged.proofs.compose_block.Lts as lts
-use Rattle.horner.proofs.horner_part.Reads as horner-part-reads
-use Rattle.ranged.proofs.block_end.Reads as block-end-reads
 
--- src/lib.rt:87:17
 mul-start : tie.Need-mul-start
 mul-start c = search needs
 
--- src/lib.rt:88:9
 block-end-requires : tie.Need-block-end-requires
 block-end-requires c κs = search needs
 
--- src/lib.rt:89:31
 mul-horner-part : tie.Need-mul-horner-part
 mul-horner-part c = search needs
 
--- src/lib.rt:89:31
 sub-horner-part : tie.Need-sub-horner-part
 sub-horner-part c = search needs
 
--- src/lib.rt:89:31
 part-horner-part-start : tie.Need-part-horner-part-start
 part-horner-part-start c = search needs
 
--- src/lib.rt:89:31
 part-horner-part-end : tie.Need-part-horner-part-end
 part-horner-part-end c = search needs
 
--- src/lib.rt:89:5
 horner-part-requires : tie.Need-horner-part-requires
 horner-part-requires c κs =
     let end = c .before .before in
     let begin = end .before .before .before in
     rw (end .block-end .ensures, block-part (begin .args .b) (begin .args .f .now) (begin .args .j) (begin .pre .begins)) (part-operands (begin .pre))
 
--- src/lib.rt:83:1
 same-length : tie.Need-same-length
 same-length c = search needs
 
--- src/lib.rt:83:1
 returns : tie.Need-returns
 returns c =
     let end = c .before .before .before .before .before in

@@ -3,49 +3,35 @@ use borrow.Author.Needs.{needs}
 use mathlib.Core.Logic.{inl, inr}
 use Rattle.ranged.specs.Kept.{fourth-power, square-operands}
 use native.Mathlib.Omega.{arith}
-use Prim.Native.Nat.{ℕ, _+_, _*_, _-_, _<_, _≤_, _%_}
-use lib.ListN.{length, getD, take, drop, set}
-use mathlib.Core.Path.{_≡_, refl, sym, ap, _∙_}
 use Rattle.ranged.proofs.fourth_power.Statement.{statement}
 use Rattle.ranged.proofs.fourth_power.Tie as tie
-use Rattle.ranged.proofs.fourth_power.Reads as reads
-use Rattle.ranged.proofs.fourth_power.Lts as lts
-use Rattle.product.proofs.multiply.Reads as multiply-reads
 
--- src/lib.rt:15:51
 mul-multiply : tie.Need-mul-multiply
 mul-multiply c = search needs
 
--- src/lib.rt:15:9
 multiply-requires : tie.Need-multiply-requires
 multiply-requires c κs =
     let pre = c .before .before .pre in
     square-operands (pre .modulus) (pre .order) (record { source = omega arith; target = omega arith; apart = inl (omega arith) })
 
--- src/lib.rt:16:41
 mul-multiply-2 : tie.Need-mul-multiply-2
 mul-multiply-2 c = search needs
 
--- src/lib.rt:16:48
 mul-multiply-3 : tie.Need-mul-multiply-3
 mul-multiply-3 c = search needs
 
--- src/lib.rt:16:14
 multiply-requires-2 : tie.Need-multiply-requires-2
 multiply-requires-2 c κs =
     let pre = c .before .before .before .before .before .before .pre in
     let size = c .before .before .before .multiply .kept .0 in
     square-operands (pre .modulus) (pre .order) (record { source = omega arith; target = omega arith; apart = inr (omega arith) })
 
--- src/lib.rt:16:5
 add-result : tie.Need-add-result
 add-result c = search needs
 
--- src/lib.rt:11:1
 same-length : tie.Need-same-length
 same-length c = search needs
 
--- src/lib.rt:11:1
 returns : tie.Need-returns
 returns c =
     let second = c .before .before in

@@ -5,29 +5,19 @@ use Rattle.definition.specs.Ranged.{blockLength}
 use Rattle.definition.specs.Weight.{powerProducts}
 use Rattle.ranged.specs.Kept.{first-operands, place-bound, powers-made, powers-none}
 use native.Mathlib.Omega.{arith}
-use Prim.Native.Nat.{ℕ, _+_, _*_, _-_, _<_, _≤_, _%_}
-use lib.ListN.{length, getD, take, drop, set}
-use mathlib.Core.Path.{_≡_, refl, sym, ap, _∙_}
+use Prim.Native.Nat.{_-_}
 use Rattle.ranged.proofs.powers.Statement.{statement}
 use Rattle.ranged.proofs.powers.Tie as tie
-use Rattle.ranged.proofs.powers.Reads as reads
-use Rattle.ranged.proofs.powers.Lts as lts
-use Rattle.ranged.proofs.fourth_power.Reads as fourth-power-reads
-use Rattle.ranged.proofs.squares.Reads as squares-reads
 
--- src/lib.rt:39:9
 returns : tie.Need-returns
 returns c = rw (c .if1 .taken) (powers-none _ _ _ _)
 
--- src/lib.rt:41:9
 fourth-power-requires : tie.Need-fourth-power-requires
 fourth-power-requires c κs = first-operands (c .before .before .before .pre) (c .before .if1 .left)
 
--- src/lib.rt:42:14
 squares-requires : tie.Need-squares-requires
 squares-requires c κs = search needs
 
--- src/lib.rt:42:5
 add-result : tie.Need-add-result
 unfolding blockLength powerProducts leadingZeros ones onesIn
 add-result c =
@@ -36,11 +26,9 @@ add-result c =
     let pre = first .before .before .before .before .pre in
     omega (arith, first .fourth-power .ensures .sum, second .squares .ensures .sum, place-bound pre (first .before .before .before .before .args .rounds - 1) (omega arith))
 
--- src/lib.rt:34:1
 same-length : tie.Need-same-length
 same-length c = search needs
 
--- src/lib.rt:34:1
 returns-2 : tie.Need-returns-2
 returns-2 c =
     let second = c .before .before in

@@ -4,50 +4,36 @@ use Rattle.definition.specs.Ranged.{blockLength}
 use Rattle.route.specs.Contract.{lent-places, put-composed, put-within, route-finished}
 use Rattle.ranged.specs.Whole.{whole-levels, whole-places, whole-powers, whole-small, whole-span, whole-value, whole-weight, whole-within}
 use native.Mathlib.Omega.{arith}
-use Prim.Native.Nat.{ℕ, _+_, _*_, _-_, _<_, _≤_, _%_}
-use lib.ListN.{length, getD, take, drop, set}
-use mathlib.Core.Path.{_≡_, refl, sym, ap, _∙_}
+use Prim.Native.Nat.{_<_, _≤_}
+use lib.ListN.{length}
+use mathlib.Core.Path.{_∙_}
 use Rattle.ranged.proofs.ranged.Statement.{statement}
 use Rattle.ranged.proofs.ranged.Tie as tie
-use Rattle.ranged.proofs.ranged.Reads as reads
-use Rattle.ranged.proofs.ranged.Lts as lts
-use Rattle.ranged.proofs.compose_span.Reads as compose-span-reads
-use Rattle.ranged.proofs.powers.Reads as powers-reads
-use Rattle.ranged.proofs.rounds.Reads as rounds-reads
-use Rattle.route.proofs.finish.Reads as finish-reads
-use Rattle.route.proofs.put.Reads as put-reads
-use Rattle.route.proofs.work_places.Reads as work-places-reads
 
 bounds : (0 < 4) × (4 ≤ 64)
 bounds = (omega arith, omega arith)
 
--- src/lib.rt:116:9
 work-places-requires : tie.Need-work-places-requires
 work-places-requires c κs = search needs
 
--- src/lib.rt:117:9
 rounds-requires : tie.Need-rounds-requires
 rounds-requires c κs = search needs
 
--- src/lib.rt:118:14
 add-t : tie.Need-add-t
 add-t c =
     let begin = c .before .before .before .before .before .before in
     record { fits = omega (arith, whole-levels (begin .pre) bounds (c .rounds .ensures)) }
 
--- src/lib.rt:118:13
 mul-t : tie.Need-mul-t
 mul-t c =
     let begin = c .before .before .before .before .before .before in
     record { fits = omega (arith, whole-places (begin .pre) bounds (c .rounds .ensures) .0, begin .pre .order) }
 
--- src/lib.rt:119:5
 put-requires : tie.Need-put-requires
 put-requires c κs =
     let begin = c .before .before .before .before .before .before .before in
     omega (arith, lent-places (begin .pre))
 
--- src/lib.rt:120:9
 powers-requires : tie.Need-powers-requires
 powers-requires c κs =
     let put = c .before .before .before in
@@ -55,7 +41,6 @@ powers-requires c κs =
     let begin = rounds .before .before .before .before .before .before in
     whole-powers (begin .pre) bounds (rounds .rounds .ensures) (put .put .kept .1 .1 .0)
 
--- src/lib.rt:121:24
 compose-span-requires : tie.Need-compose-span-requires
 unfolding blockLength
 compose-span-requires c κs =
@@ -65,7 +50,6 @@ compose-span-requires c κs =
     let begin = rounds .before .before .before .before .before .before in
     whole-span (begin .pre) bounds (rounds .rounds .ensures) (powers .powers .ensures) (put .put .kept .1 .1 .0)
 
--- src/lib.rt:121:15
 add-sum : tie.Need-add-sum
 unfolding blockLength
 add-sum c =
@@ -75,7 +59,6 @@ add-sum c =
     let begin = rounds .before .before .before .before .before .before in
     record { fits = omega (arith, whole-small (begin .pre) bounds (rounds .rounds .ensures) (powers .powers .ensures) (span .compose-span .ensures)) }
 
--- src/lib.rt:122:5
 finish-requires : tie.Need-finish-requires
 unfolding blockLength
 finish-requires c κs =
@@ -90,15 +73,12 @@ finish-requires c κs =
       omega (arith, begin .pre .work, places .work-places .ensures, put .put .kept .1 .1 .0, size),
     )
 
--- src/lib.rt:112:1
 same-length : tie.Need-same-length
 same-length c = search needs
 
--- src/lib.rt:112:1
 same-length-2 : tie.Need-same-length-2
 same-length-2 c = search needs
 
--- src/lib.rt:112:1
 returns : tie.Need-returns
 unfolding blockLength
 returns c =

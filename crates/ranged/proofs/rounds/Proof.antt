@@ -9,45 +9,35 @@ use Prim.Native.Nat.{_+_, _-_, _/_}
 use mathlib.Core.Path.{sym}
 use Rattle.ranged.proofs.rounds.Statement.{statement}
 use Rattle.ranged.proofs.rounds.Tie as tie
-use Rattle.ranged.proofs.rounds.Reads as reads
-use Rattle.ranged.proofs.rounds.Lts as lts
 
--- src/lib.rt:50:24
 sub-blocks : tie.Need-sub-blocks
 sub-blocks c = search needs
 
--- src/lib.rt:50:19
 add-blocks : tie.Need-add-blocks
 add-blocks c = search needs
 
--- src/lib.rt:50:18
 div-blocks : tie.Need-div-blocks
 div-blocks c = search needs
 
--- src/lib.rt:54:35
 sub-result : tie.Need-sub-result
 sub-result c = search needs
 
--- src/lib.rt:54:14
 cast-result : tie.Need-cast-result
 cast-result c =
     let a = c .before .args in
     record { fits = omega (arith, leading-le 64 ((a .m + (a .b - 1)) / a .b - 1)) }
 
--- src/lib.rt:54:9
 sub-result-2 : tie.Need-sub-result-2
 sub-result-2 c =
     let a = c .before .args in
     leading-le 64 ((a .m + (a .b - 1)) / a .b - 1)
 
--- src/lib.rt:46:1
 returns : tie.Need-returns
 unfolding ceilDiv
 returns c =
     let a = c .before .args in
     sym (halvings-1 (ceilDiv (a .m) (a .b)) (c .if1 .taken))
 
--- src/lib.rt:46:1
 returns-2 : tie.Need-returns-2
 unfolding ceilDiv
 returns-2 c =

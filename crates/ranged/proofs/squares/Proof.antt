@@ -2,14 +2,10 @@
 use borrow.Author.Needs.{needs}
 use Rattle.ranged.specs.Kept.{Squares, place-bound, squares-first, squares-next, squares-operands}
 use native.Mathlib.Omega.{arith}
-use Prim.Native.Nat.{ℕ, _+_, _*_, _-_, _<_, _≤_, _%_}
-use lib.ListN.{length, getD, take, drop, set}
-use mathlib.Core.Path.{_≡_, refl, sym, ap, _∙_}
+use Prim.Native.Nat.{_+_, _-_, _<_, _≤_}
+use mathlib.Core.Path.{_≡_}
 use Rattle.ranged.proofs.squares.Statement.{statement}
 use Rattle.ranged.proofs.squares.Tie as tie
-use Rattle.ranged.proofs.squares.Reads as reads
-use Rattle.ranged.proofs.squares.Lts as lts
-use Rattle.product.proofs.multiply.Reads as multiply-reads
 
 abbrev Inv-loop : tie.InvT-loop
 Inv-loop p n rounds w₀ weight₀ i₀ w weight i = (0 < i) × (i ≤ rounds) × Squares p n i w₀ w weight
@@ -17,47 +13,37 @@ Inv-loop p n rounds w₀ weight₀ i₀ w weight i = (0 < i) × (i ≤ rounds) �
 abbrev μ-loop : tie.MeasureT-loop
 μ-loop p n rounds w₀ weight₀ i₀ w weight i = rounds - i
 
--- src/lib.rt:26:5
 loop-holds : tie.Need-loop-holds Inv-loop μ-loop
 loop-holds c = (search needs, search needs, squares-first _ _ _)
 
--- src/lib.rt:27:46
 mul-multiply : tie.Need-mul-multiply Inv-loop μ-loop
 mul-multiply c = record { fits = omega (arith, place-bound (c .before .before .before .before .pre .0) (c .before .before .loop .i) (omega arith)) }
 
--- src/lib.rt:27:53
 mul-multiply-2 : tie.Need-mul-multiply-2 Inv-loop μ-loop
 mul-multiply-2 c = record { fits = omega (arith, place-bound (c .before .before .before .before .pre .0) (c .before .before .loop .i) (omega arith)) }
 
--- src/lib.rt:27:61
 add-multiply : tie.Need-add-multiply Inv-loop μ-loop
 add-multiply c = search needs
 
--- src/lib.rt:27:60
 mul-multiply-3 : tie.Need-mul-multiply-3 Inv-loop μ-loop
 mul-multiply-3 c = record { fits = omega (arith, place-bound (c .before .before .before .before .pre .0) (c .before .before .loop .i + 1) (omega arith)) }
 
--- src/lib.rt:27:19
 multiply-requires : tie.Need-multiply-requires Inv-loop μ-loop
 multiply-requires c κs =
     let at = c .before .before in
     squares-operands (at .before .before .pre .0) (at .loop .inv .2 .within .size) (at .loop .inv .0) (c .before .loop-test .taken)
 
--- src/lib.rt:27:9
 add-weight : tie.Need-add-weight Inv-loop μ-loop
 add-weight c =
     let at = c .before .before .before .before .before in
     omega (arith, place-bound (at .before .before .pre .0) (at .loop .i - 1) (omega arith))
 
--- src/lib.rt:28:9
 add-i : tie.Need-add-i Inv-loop μ-loop
 add-i c = search needs
 
--- src/lib.rt:26:5
 loop-less : tie.Need-loop-less Inv-loop μ-loop
 loop-less c = search needs
 
--- src/lib.rt:26:5
 loop-again : tie.Need-loop-again Inv-loop μ-loop
 loop-again c =
     let at = c .before .before .before .before .before in (
@@ -66,11 +52,9 @@ loop-again c =
       squares-next (at .before .before .pre .0) (at .loop .inv .0) (c .before .before .before .before .loop-test .taken) (at .loop .inv .2) (c .before .before .multiply .ensures),
     )
 
--- src/lib.rt:20:1
 same-length : tie.Need-same-length Inv-loop μ-loop
 same-length c = c .before .loop .inv .2 .within .size
 
--- src/lib.rt:20:1
 returns : tie.Need-returns Inv-loop μ-loop
 returns c =
     let all : c .before .loop .i ≡ c .before .before .before .args .rounds = omega arith in
