@@ -14,6 +14,7 @@
 --   next-small                         the block after a span, and its place, fit a word
 --   part-room                          there are 2 n places from t on
 --   span-small                         the weight of a span fits a word
+--   join-small                         so does that of a join
 -- Assumes nothing.
 use Prim.Native.Nat.{ℕ, suc, _+_, _-_, _*_, _^_, _<_, _≤_}
 use native.Mathlib.Nat.{le-refl, le-trans, mul-le-mul, mul-le-mul-right, suc-mul}
@@ -96,6 +97,11 @@ pub span-small : {p n b level j t r : ℕ} {f u v : List ℕ} → n ≤ 4096 →
 unfolding hornerWeight
 span-small {b = b} {level} {j} {f = f} order outer part =
     rw (part .sum) (mul-le-mul {n₂ = 4096} (omega (arith, length-span b f level j)) order)
+
+-- the weights of two spans, and of the product that joins them
+pub join-small : {p n b k l i j s t q r : ℕ} {f u v x y : List ℕ} → n ≤ 4096 → length f ≤ 4096
+    → SpanPart p n b k i s f u v q → SpanPart p n b l j t f x y r → q + r + n ≤ 8193 * 4096
+join-small order outer even odd = omega (arith, span-small order outer even, span-small order outer odd)
 
 module _ {p n b level below j t : ℕ} {f u : List ℕ} (e : level ≡ suc below) (pre : SpanOperands p n b level j t f u) where
   -- the places of a level are n more than those of the level below

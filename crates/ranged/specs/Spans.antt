@@ -4,7 +4,7 @@
 --   span-block           at level 0 it is block j
 --   span-split           one level up it is two spans, one after the other
 --   span-alone           or the first of them alone, where no block begins after it
---   block-part           block j, as the part of f from place b j up to the end of the block or of f
+--   block-part           block j, as the part of f up to the place where the next block begins
 --   length-block length-span   they are not longer than f
 --   span-whole           from block 0 on, at the level of the number of halvings of the number of blocks, it is the whole list
 --   span-composed        where a block begins after the first span, the two compositions join to that of the span one level up
@@ -42,10 +42,13 @@ module _ (b : ℕ) (f : List ℕ) where
   unfolding span block
   span-block j = rw (pow-zero, mul-one)
 
-  -- the part of f that is handed to Horner, up to the end of the block or of f
-  pub block-part : (j : ℕ) → b * j ≤ length f → take (min (b * j + b) (length f) - b * j) (drop (b * j) f) ≡ block b j f
+  -- the part of f that is handed to Horner, up to the place where the next block begins
+  pub block-part : (j : ℕ) → b * j ≤ length f
+      → take (min (b * (j + 1)) (length f) - min (b * j) (length f)) (drop (min (b * j) (length f)) f) ≡ block b j f
   unfolding block
-  block-part j begins = go (decLt (length f) (b * j + b))
+  block-part j begins =
+      let start : min (b * j) (length f) ≡ b * j = omega arith in
+      rw (start, mul-add, mul-one) (go (decLt (length f) (b * j + b)))
     where
       size : length (drop (b * j) f) ≡ length f - b * j
       size = length-drop (b * j) f

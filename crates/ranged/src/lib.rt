@@ -70,13 +70,13 @@ fn power_of_two(level: usize) -> usize
     1 << level
 }
 
-// The place after the last of block j of a list of m places.
-fn block_end(b: usize, j: usize, m: usize) -> usize
-    requires { ⌜ b * j + b < 2 ^ 64 ⌝ }
-    ensures { λ r. ⌜ r ≡ min (b * j + b) m ⌝ }
+// The place where block j of a list of m places begins: m where the list has ended.
+fn block_place(b: usize, j: usize, m: usize) -> usize
+    requires { ⌜ b * j < 2 ^ 64 ⌝ }
+    ensures { λ r. ⌜ r ≡ min (b * j) m ⌝ }
 {
-    let end = b * j + b;
-    if m < end { m } else { end }
+    let place = b * j;
+    if m < place { m } else { place }
 }
 
 // The n places from t on become f's block j at G modulo p and x^n, by Horner, where G are the first n places. The n places after them are used.
@@ -84,13 +84,13 @@ fn compose_block(p: u32, n: usize, b: usize, f: &[u32], j: usize, w: &mut [u32],
     requires { ⌜ SpanOperands p n b 0 j t (now f) (now w) ⌝ }
     ensures { λ r. ⌜ Part p n (block b j (now (f .entry))) 0 t (now (w .entry)) (now (w .exit)) r ⌝ }
 {
-    let start = b * j;
-    let end = block_end(b, j, f.len());
+    let start = block_place(b, j, f.len());
+    let end = block_place(b, j + 1, f.len());
     horner::horner_part(p, n, &f[start..end], w, 0, t)
 }
 
 // The n places from t on become the part of f from block j on, at most 2^level blocks long, at G modulo p and x^n, where G are the first n
-// places and their powers follow them. The even half at t joins with the odd half at t + n; without partner it passes on. Gives the weight.
+// places and their powers follow them. The even half at t joins with the odd half beside it; without partner it passes on.
 fn compose_span(
     p: u32,
     n: usize,
@@ -113,8 +113,10 @@ fn compose_span(
     if f.len() <= b * next {
         return even;
     }
-    let odd = compose_span(p, n, b, f, below, next, w, t + n);
-    even + odd + product::multiply_add(p, n, w, t + n, level * n, t)
+    let beside = t + n;
+    let odd = compose_span(p, n, b, f, below, next, w, beside);
+    let power = level * n;
+    even + odd + product::multiply_add(p, n, w, beside, power, t)
 }
 
 // Route 2: f(g) modulo x^n.

@@ -1,9 +1,9 @@
 -- `ranged::compose_span` meets its contract. The measure is the level. Assumes nothing.
 use borrow.Author.Needs.{needs}
-use native.Mathlib.Omega.{arith}
-use Rattle.ranged.specs.Joins.{join-operands, lower-operands, next-small, odd-operands, part-room, part-span, predecessor, span-joined, span-passed, span-small}
-use Prim.Native.Nat.{ℕ, _-_, _<_}
 use native.Mathlib.Nat.{mul-le-mul}
+use native.Mathlib.Omega.{arith}
+use Rattle.ranged.specs.Joins.{join-operands, join-small, lower-operands, next-small, odd-operands, part-room, part-span, predecessor, span-joined, span-passed}
+use Prim.Native.Nat.{ℕ, _-_, _<_}
 use borrow.Fn.Kinds.{In}
 use borrow.Fn.PlainCycle.{Measures, is, falls, and}
 use Rattle.ranged.proofs.compose_span.Reads as reads
@@ -83,9 +83,9 @@ returns-2 t c =
     span-passed (predecessor (begin .args .level) (even .before .before .if1 .left)) (begin .pre .1)
     (rw (c .before .power-of-two .ensures) at (c .if2 .taken)) (even .compose-span .ensures)
 
-add-compose-span : (t : ℕ) → lts.Need-add-compose-span (claims t) (operands-at t) reads.Post
-add-compose-span t c =
-    let begin = c .before .before .before .before .before .before .before .before .before .before in
+add-beside : (t : ℕ) → lts.Need-add-beside (claims t) (operands-at t) reads.Post
+add-beside t c =
+    let begin = c .before .before .before .before .before .before .before .before .before in
     record { fits = omega (arith, part-room (begin .pre .1), begin .good) }
 
 compose-span-requires-2 : (t : ℕ) → lts.Need-compose-span-requires-2 (claims t) (operands-at t) reads.Post
@@ -98,28 +98,17 @@ compose-span-requires-2 t c κs =
           (odd-operands (predecessor (begin .args .level) (even .before .before .if1 .left)) (begin .pre .1) (rw next at (c .before .if2 .left)) (even .compose-span .ensures)),
     )
 
+mul-power : (t : ℕ) → lts.Need-mul-power (claims t) (operands-at t) reads.Post
+mul-power t c =
+    let begin = c .before .before .before .before .before .before .before .before .before .before .before .before .before in
+    record { fits = omega (arith, mul-le-mul (begin .pre .1 .levels) (begin .pre .1 .order)) }
+
 add-result : (t : ℕ) → lts.Need-add-result (claims t) (operands-at t) reads.Post
 add-result t c =
     let odd = c .before .before in
     let even = odd .before .before .before .before .before .before in
     let pre = even .before .before .before .before .before .pre .1 in
-    record {
-      fits = omega (
-        arith,
-        span-small (pre .order) (pre .outer) (even .compose-span .ensures),
-        span-small (pre .order) (pre .outer) (odd .compose-span2 .ensures),
-      );
-    }
-
-add-multiply-add : (t : ℕ) → lts.Need-add-multiply-add (claims t) (operands-at t) reads.Post
-add-multiply-add t c =
-    let begin = c .before .before .before .before .before .before .before .before .before .before .before .before .before .before in
-    record { fits = omega (arith, part-room (begin .pre .1), begin .good) }
-
-mul-multiply-add : (t : ℕ) → lts.Need-mul-multiply-add (claims t) (operands-at t) reads.Post
-mul-multiply-add t c =
-    let begin = c .before .before .before .before .before .before .before .before .before .before .before .before .before .before in
-    record { fits = omega (arith, mul-le-mul (begin .pre .1 .levels) (begin .pre .1 .order)) }
+    record { fits = omega (arith, join-small (pre .order) (pre .outer) (even .compose-span .ensures) (odd .compose-span2 .ensures)) }
 
 multiply-add-requires : (t : ℕ) → lts.Need-multiply-add-requires (claims t) (operands-at t) reads.Post
 multiply-add-requires t c κs =
@@ -132,16 +121,15 @@ multiply-add-requires t c κs =
 
 add-result-2 : (t : ℕ) → lts.Need-add-result-2 (claims t) (operands-at t) reads.Post
 add-result-2 t c =
-    let odd = c .before .before .before .before .before .before in
+    let added = c .before .before in
+    let odd = added .before .before .before .before in
     let even = odd .before .before .before .before .before .before in
     let pre = even .before .before .before .before .before .pre .1 in
     record {
       fits = omega (
         arith,
-        span-small (pre .order) (pre .outer) (even .compose-span .ensures),
-        span-small (pre .order) (pre .outer) (odd .compose-span2 .ensures),
-        c .before .before .multiply-add .ensures .places,
-        pre .order,
+        join-small (pre .order) (pre .outer) (even .compose-span .ensures) (odd .compose-span2 .ensures),
+        added .multiply-add .ensures .places,
       );
     }
 
@@ -172,11 +160,10 @@ pub +compose-span-spec : {M : Type 1} → statement M
     (mul-if2 t)
     (same-length-2 t)
     (returns-2 t)
-    (add-compose-span t)
+    (add-beside t)
     (compose-span-requires-2 t)
+    (mul-power t)
     (add-result t)
-    (add-multiply-add t)
-    (mul-multiply-add t)
     (multiply-add-requires t)
     (add-result-2 t)
     (same-length-3 t)
