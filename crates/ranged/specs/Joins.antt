@@ -18,7 +18,6 @@
 -- Assumes nothing.
 use Prim.Native.Nat.{ℕ, suc, _+_, _-_, _*_, _^_, _<_, _≤_}
 use native.Mathlib.Nat.{le-refl, le-trans, mul-le-mul, mul-le-mul-right, suc-mul}
-use native.Mathlib.Numerals.{add-one}
 use native.Mathlib.Omega.{arith}
 use mathlib.Core.List.{List}
 use mathlib.Core.Logic.{inl, inr}
@@ -33,7 +32,7 @@ use Rattle.horner.specs.Part.{Part, PartOperands}
 use Rattle.product.specs.Segments.{segment}
 use Rattle.product.specs.Single.{MultipliedAdd, Operands, addedProduct}
 use Rattle.route.specs.Within.{Within, segment-sets, segment-within, within-sets, within-trans, within-wider}
-use Rattle.ranged.specs.Kept.{Holds, holds-within}
+use Rattle.ranged.specs.Kept.{Holds, holds-within, next-place}
 use Rattle.ranged.specs.Spans.{length-block, length-span, span, span-alone, span-block, span-composed, span-weight}
 
 pub record SpanOperands (p n b level j t : ℕ) (f w : List ℕ) : Type 0 where
@@ -93,7 +92,8 @@ part-room {n = n} {level} pre =
     let least : 2 * n ≤ (level + 2) * n = mul-le-mul-right n (omega arith) in
     omega (arith, pre .room)
 
-pub span-small : {p n b level j t r : ℕ} {f u v : List ℕ} → n ≤ 4096 → length f ≤ 4096 → SpanPart p n b level j t f u v r → r ≤ 4096 * 4096
+pub span-small : {p n b level j t r : ℕ} {f u v : List ℕ} → n ≤ 4096 → length f ≤ 4096
+    → SpanPart p n b level j t f u v r → r ≤ 4096 * 4096
 unfolding hornerWeight
 span-small {b = b} {level} {j} {f = f} order outer part =
     rw (part .sum) (mul-le-mul {n₂ = 4096} (omega (arith, length-span b f level j)) order)
@@ -108,9 +108,6 @@ module _ {p n b level below j t : ℕ} {f u : List ℕ} (e : level ≡ suc below
   wider : (level + 2) * n ≡ (below + 2) * n + n
   wider = rw (← suc-mul) (ap (λ k. k * n) (omega arith))
 
-  before : (level + 1) * n ≡ level * n + n
-  before = rw (add-one, suc-mul)
-
   lower : (below + 1) * n ≡ level * n
   lower = ap (λ k. k * n) (omega arith)
 
@@ -124,12 +121,13 @@ module _ {p n b level below j t : ℕ} {f u : List ℕ} (e : level ≡ suc below
     limit = pre .limit;
     levels = omega (arith, pre .levels);
     begins = pre .begins;
-    apart = omega (arith, lower, before, pre .apart);
+    apart = omega (arith, lower, next-place n level, pre .apart);
     room = omega (arith, wider, pre .room);
     powers = record { power = λ i less. pre .powers .power i (omega arith) };
   }
 
-  pub span-passed : {w : List ℕ} {r : ℕ} → length f ≤ b * (j + 2 ^ below) → SpanPart p n b below j t f u w r → SpanPart p n b level j t f u w r
+  pub span-passed : {w : List ℕ} {r : ℕ} → length f ≤ b * (j + 2 ^ below)
+      → SpanPart p n b below j t f u w r → SpanPart p n b level j t f u w r
   span-passed {w} {r} last part = record {
     within = within-wider (le-refl t) (omega (arith, wider)) (part .within);
     value = rw (e, span-alone b f below j last) (part .value);
@@ -138,7 +136,7 @@ module _ {p n b level below j t : ℕ} {f u : List ℕ} (e : level ≡ suc below
 
   module _ (next : b * (j + 2 ^ below) < length f) {v : List ℕ} {r : ℕ} (even : SpanPart p n b below j t f u v r) where
     inner-kept : segment v 0 n ≡ segment u 0 n
-    inner-kept = segment-within (even .within) 0 n (inl (omega (arith, before, pre .apart)))
+    inner-kept = segment-within (even .within) 0 n (inl (omega (arith, next-place n level, pre .apart)))
 
     pub odd-operands : SpanOperands p n b below (j + 2 ^ below) (t + n) f v
     odd-operands = record {
@@ -150,7 +148,7 @@ module _ {p n b level below j t : ℕ} {f u : List ℕ} (e : level ≡ suc below
       limit = pre .limit;
       levels = omega (arith, pre .levels);
       begins = omega arith;
-      apart = omega (arith, lower, before, pre .apart);
+      apart = omega (arith, lower, next-place n level, pre .apart);
       room = omega (arith, wider, pre .room, even .within .size);
       powers = rw inner-kept (holds-within (lower-operands .apart) (even .within) (lower-operands .powers));
     }
@@ -169,9 +167,9 @@ module _ {p n b level below j t : ℕ} {f u : List ℕ} (e : level ≡ suc below
           apart = inr (le-refl (t + n));
         };
         right = record {
-          source = omega (arith, before, pre .apart, pre .room, size);
+          source = omega (arith, next-place n level, pre .apart, pre .room, size);
           target = omega (arith, wider, pre .room, size);
-          apart = inl (omega (arith, before, pre .apart));
+          apart = inl (omega (arith, next-place n level, pre .apart));
         };
       }
 

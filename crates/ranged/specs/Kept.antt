@@ -1,13 +1,22 @@
 -- The powers of the inner list that the joins need, kept in the work buffer. The inner list stands at place 0, its power g^(b 2^i) at
 -- place (i + 1) n.
 --
---   Holds p n b g count w     the first `count` powers stand in w
---   BasePower                 the contract of `base_power`
---   SquareOperands, Squares   the contract of `squares`
---   PowerOperands, Powers     the contract of `powers`
---   holds-first               the first power
---   holds-next                one power more, by squaring the last
---   holds-within              a change after the powers keeps them
+--   Holds p n b g count w   the first `count` powers stand in w
+--   PowerOperands           what the routines that form them require: the places of the powers, and n after them
+--   BasePower               the contract of `fourth_power`: the power g^b
+--   Squares                 the contract of `squares`: from the first power, whatever power it is, the others
+--   Powers                  the contract of `powers`
+--   next-place              the place after n more
+--   holds-first             the first power
+--   holds-next              one power more, by squaring the last
+--   holds-within            a change after the powers keeps them
+--   square-operands         what a squaring requires, where the target lies apart from what is squared
+--   place-bound             the places of the powers fit a word
+--   first-operands          what the first power requires
+--   squares-operands        what each further squaring requires
+--   fourth-power            two squarings give g^4
+--   squares-first squares-next   `squares` before the first turn, and one turn
+--   powers-none powers-made   `powers` without a round, and with one or more
 -- Assumes nothing.
 use Prim.Native.Nat.{ℕ, zero, suc, _+_, _-_, _*_, _^_, _<_, _≤_}
 use native.Mathlib.Decide.{ℕ-discrete}
@@ -53,8 +62,11 @@ pub record Powers (p n b rounds : ℕ) (before after : List ℕ) (result : ℕ) 
   pub value : Holds p n b (segment before 0 n) rounds after
   pub sum : result ≡ powersProducts b rounds * n
 
+pub next-place : (n i : ℕ) → (i + 1) * n ≡ i * n + n
+next-place n i = rw (add-one, suc-mul)
+
 -- n places from place (i + 1) n on end before place k n, for i + 1 below k
-pub places-before : (n i k : ℕ) → i + 1 < k → (i + 1) * n + n ≤ k * n
+places-before : (n i k : ℕ) → i + 1 < k → (i + 1) * n + n ≤ k * n
 places-before n i k below = rw (← suc-mul) (mul-le-mul-right n below)
 
 pub holds-first : {p n b : ℕ} {g w : List ℕ} → segment w n n ≡ cutPower p n g b → Holds p n b g 1 w
@@ -68,7 +80,8 @@ holds-first {p} {n} {b} {g} {w} value = record { power = at }
 pub holds-within : {p n b : ℕ} {g : List ℕ} {count t m : ℕ} {v w : List ℕ} → (count + 1) * n ≤ t → Within t m v w
     → Holds p n b g count v → Holds p n b g count w
 holds-within {n = n} {count} low within holds = record {
-  power = λ i below. segment-within within ((i + 1) * n) n (inl (le-trans (places-before n i (count + 1) (omega arith)) low)) ∙ holds .power i below;
+  power = λ i below.
+      segment-within within ((i + 1) * n) n (inl (le-trans (places-before n i (count + 1) (omega arith)) low)) ∙ holds .power i below;
 }
 
 pub holds-next : {p n b : ℕ} {g : List ℕ} {i : ℕ} {w : List ℕ} → 0 < p → 0 < i → (i + 2) * n ≤ length w → Holds p n b g i w
@@ -86,7 +99,9 @@ holds-next {p} {n} {b} {g} {i = suc i} {w} l some room holds = record { power = 
     size = length-cutProduct p n (segment w (suc i * n) n) (segment w (suc i * n) n)
 
     kept : Holds p n b g (suc i) after
-    kept = holds-within (le-refl ((suc i + 1) * n)) (within-sets {n = n} w ((suc i + 1) * n) square (le-refl ((suc i + 1) * n)) (rw size (le-refl _))) holds
+    kept =
+        holds-within (le-refl ((suc i + 1) * n))
+        (within-sets {n = n} w ((suc i + 1) * n) square (le-refl ((suc i + 1) * n)) (rw size (le-refl _))) holds
 
     next : segment after ((suc i + 1) * n) n ≡ cutPower p n g (b * 2 ^ suc i)
     next =
@@ -98,12 +113,12 @@ holds-next {p} {n} {b} {g} {i = suc i} {w} l some room holds = record { power = 
     at k below (no other) = kept .power k (omega arith)
 
 -- a product that was written to the n places from t on
-pub within-product : {p n a b t : ℕ} {v w : List ℕ} {r : ℕ} → Multiplied p n a b t v w r → {s m : ℕ} → s ≤ t → t + n ≤ s + m → Within s m v w
+within-product : {p n a b t : ℕ} {v w : List ℕ} {r : ℕ} → Multiplied p n a b t v w r
+    → {s m : ℕ} → s ≤ t → t + n ≤ s + m → Within s m v w
 within-product {p} {n} {a} {b} {t} {v} {w} product low high =
     rw (product .written)
     (within-sets v t (cutProduct p n (segment v a n) (segment v b n)) low (rw length-cutProduct high))
 
--- a square, where the target lies apart from what is squared
 pub square-operands : {p n a t : ℕ} {w : List ℕ} → 0 < p → n ≤ 4096 → Apart w a n t n → Operands p n a a t w
 square-operands l order apart = record { modulus = l; order = omega arith; left = apart; right = apart }
 
@@ -111,7 +126,6 @@ module _ {p n rounds : ℕ} {u : List ℕ} (pre : PowerOperands p n rounds u) wh
   pub place-bound : (i : ℕ) → i ≤ 13 → i * n ≤ 53248
   place-bound i few = mul-le-mul few (pre .order)
 
-  -- what the first power needs
   pub first-operands : (rounds ≡ 0 → ⊥) → PowerOperands p n 1 u
   first-operands some = record {
     modulus = pre .modulus;
@@ -122,7 +136,7 @@ module _ {p n rounds : ℕ} {u : List ℕ} (pre : PowerOperands p n rounds u) wh
 
   pub squares-operands : {i : ℕ} {v : List ℕ} → length v ≡ length u → 0 < i → i < rounds → Operands p n (i * n) (i * n) ((i + 1) * n) v
   squares-operands {i} {v} size some below =
-      let next : (i + 1) * n ≡ i * n + n = rw (add-mul, one-mul) in
+      let next = next-place n i in
       let room : (i + 1) * n + n ≤ length u = le-trans (places-before n i (rounds + 2) (omega arith)) (pre .room) in
       square-operands (pre .modulus) (pre .order) (record { source = omega arith; target = omega arith; apart = inl (omega arith) })
 
@@ -156,7 +170,7 @@ squares-first p n w = record {
 pub squares-next : {p n rounds i : ℕ} {u v w : List ℕ} {r s : ℕ} → PowerOperands p n rounds u → 0 < i → i < rounds
     → Squares p n i u v r → Multiplied p n (i * n) (i * n) ((i + 1) * n) v w s → Squares p n (i + 1) u w (r + s)
 squares-next {p} {n} {rounds} {i} {u} {v} {w} pre some below before now =
-    let next : (i + 1) * n ≡ i * n + n = rw (add-mul, one-mul) in
+    let next = next-place n i in
     let last : (i + 1 - 1) * n ≡ (i - 1) * n + n = rw (← suc-mul) (ap (λ k. k * n) (omega arith)) in
     let room : (i + 2) * n ≤ length v = rw (before .within .size) (le-trans (mul-le-mul-right n (omega arith)) (pre .room)) in
     record {

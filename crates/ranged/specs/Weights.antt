@@ -27,7 +27,8 @@ powersProducts b (suc rounds) = powerProducts b + rounds
 join-products : (rounds k : ℕ) → k ≤ rounds → 1 < k → joinProducts rounds k ≡ k - 1 + (halvings k - 1)
 unfolding joinProducts ceilDiv
 join-products zero k enough more = absurd (omega arith)
-join-products (suc rounds) k enough more = rw (lt-leb k 1 more, halvings-suc k more) (half (decLt 1 (ceilDiv k 2)) (join-products rounds (ceilDiv k 2)))
+join-products (suc rounds) k enough more =
+    rw (lt-leb k 1 more, halvings-suc k more) (half (decLt 1 (ceilDiv k 2)) (join-products rounds (ceilDiv k 2)))
   where
     half : Dec (1 < ceilDiv k 2)
         → (ceilDiv k 2 ≤ rounds → 1 < ceilDiv k 2 → joinProducts rounds (ceilDiv k 2) ≡ ceilDiv k 2 - 1 + (halvings (ceilDiv k 2) - 1))

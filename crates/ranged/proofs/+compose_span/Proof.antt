@@ -15,9 +15,11 @@ use Rattle.ranged.proofs.power_of_two.Reads as power-of-two-reads
 use Rattle.ranged.proofs.+compose_span.{statement}
 use Rattle.ranged.proofs.+compose_span.Tie.{close}
 
+-- the level
 abbrev μ : Measures 2 kinds.ps ℕ
 μ κs a = a .1 .1 .1 .1 .0
 
+-- what the function is given at the measure t, and what a call of it asks below t
 abbrev operands-at : ℕ → In 2 kinds.ps
 operands-at t =
     and 2 kinds.ps (is 2 kinds.ps μ t) reads.Pre
@@ -66,12 +68,14 @@ power-of-two-requires t c κs = search needs
 add-next : (t : ℕ) → lts.Need-add-next (claims t) (operands-at t) reads.Post
 add-next t c =
     let begin = c .before .before .before .before .before .before .before .before in
-    record { fits = rw (c .power-of-two .ensures) (omega (arith, next-small (begin .pre .1) (begin .args .level - 1) (omega (arith, begin .pre .1 .levels)) .0)) }
+    let small = next-small (begin .pre .1) (begin .args .level - 1) (omega (arith, begin .pre .1 .levels)) in
+    record { fits = rw (c .power-of-two .ensures) (omega (arith, small .0)) }
 
 mul-if2 : (t : ℕ) → lts.Need-mul-if2 (claims t) (operands-at t) reads.Post
 mul-if2 t c =
     let begin = c .before .before .before .before .before .before .before .before in
-    record { fits = rw (c .power-of-two .ensures) (omega (arith, next-small (begin .pre .1) (begin .args .level - 1) (omega (arith, begin .pre .1 .levels)) .1)) }
+    let small = next-small (begin .pre .1) (begin .args .level - 1) (omega (arith, begin .pre .1 .levels)) in
+    record { fits = rw (c .power-of-two .ensures) (omega (arith, small .1)) }
 
 same-length-2 : (t : ℕ) → lts.Need-same-length-2 (claims t) (operands-at t) reads.Post
 same-length-2 t c = search needs
@@ -95,7 +99,8 @@ compose-span-requires-2 t c κs =
     let next = c .before .before .power-of-two .ensures in (
       omega (arith, begin .pre .0, even .before .before .if1 .left),
       rw next
-          (odd-operands (predecessor (begin .args .level) (even .before .before .if1 .left)) (begin .pre .1) (rw next at (c .before .if2 .left)) (even .compose-span .ensures)),
+          (odd-operands (predecessor (begin .args .level) (even .before .before .if1 .left)) (begin .pre .1)
+          (rw next at (c .before .if2 .left)) (even .compose-span .ensures)),
     )
 
 mul-power : (t : ℕ) → lts.Need-mul-power (claims t) (operands-at t) reads.Post

@@ -46,7 +46,8 @@ horner-part-requires c κs =
     let second = c .before .before in
     let first = second .before in
     let begin = first .before .before .before in
-    rw (second .block-place2 .ensures, first .block-place .ensures, block-part (begin .args .b) (begin .args .f .now) (begin .args .j) (begin .pre .begins))
+    let part = block-part (begin .args .b) (begin .args .f .now) (begin .args .j) (begin .pre .begins) in
+    rw (second .block-place2 .ensures, first .block-place .ensures, part)
     (part-operands (begin .pre))
 
 same-length : tie.Need-same-length
@@ -57,7 +58,8 @@ returns c =
     let second = c .before .before .before .before .before in
     let first = second .before in
     let begin = first .before .before .before in
-    rw (second .block-place2 .ensures, first .block-place .ensures, block-part (begin .args .b) (begin .args .f .now) (begin .args .j) (begin .pre .begins))
+    let part = block-part (begin .args .b) (begin .args .f .now) (begin .args .j) (begin .pre .begins) in
+    rw (second .block-place2 .ensures, first .block-place .ensures, part)
     at (c .before .before .horner-part .ensures)
 
 pub compose-block-spec : {M : Type 1} → statement M

@@ -23,8 +23,9 @@ unfolding blockLength powerProducts leadingZeros ones onesIn
 add-result c =
     let second = c .before .before in
     let first = second .before .before .before .before in
-    let pre = first .before .before .before .before .pre in
-    omega (arith, first .fourth-power .ensures .sum, second .squares .ensures .sum, place-bound pre (first .before .before .before .before .args .rounds - 1) (omega arith))
+    let begin = first .before .before .before .before in
+    let bound = place-bound (begin .pre) (begin .args .rounds - 1) (omega arith) in
+    omega (arith, first .fourth-power .ensures .sum, second .squares .ensures .sum)
 
 same-length : tie.Need-same-length
 same-length c = search needs

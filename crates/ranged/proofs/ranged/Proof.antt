@@ -69,7 +69,14 @@ finish-requires c κs =
     let places = rounds .before in
     let begin = places .before .before .before .before .before in
     let size = whole-within (begin .pre) bounds (rounds .rounds .ensures) (powers .powers .ensures) (span .compose-span .ensures) .size in (
-      omega (arith, lent-places (begin .pre), whole-places (begin .pre) bounds (rounds .rounds .ensures) .0, begin .pre .output, put .put .kept .1 .1 .0, size),
+      omega (
+        arith,
+        lent-places (begin .pre),
+        whole-places (begin .pre) bounds (rounds .rounds .ensures) .0,
+        begin .pre .output,
+        put .put .kept .1 .1 .0,
+        size,
+      ),
       omega (arith, begin .pre .work, places .work-places .ensures, put .put .kept .1 .1 .0, size),
     )
 

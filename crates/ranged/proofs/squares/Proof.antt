@@ -49,7 +49,8 @@ loop-again c =
     let at = c .before .before .before .before .before in (
       search needs,
       search needs,
-      squares-next (at .before .before .pre .0) (at .loop .inv .0) (c .before .before .before .before .loop-test .taken) (at .loop .inv .2) (c .before .before .multiply .ensures),
+      squares-next (at .before .before .pre .0) (at .loop .inv .0) (c .before .before .before .before .loop-test .taken)
+          (at .loop .inv .2) (c .before .before .multiply .ensures),
     )
 
 same-length : tie.Need-same-length Inv-loop μ-loop
