@@ -28,7 +28,7 @@ use Rattle.ranged.specs.Kept.{PowerOperands, Powers}
 use Rattle.ranged.specs.Spans.{span, span-whole}
 use Rattle.ranged.specs.Weights.{few-products, few-rounds, ranged-weight}
 
-module _ {p n b levels : ℕ} {f out w : List ℕ} (lent : Lent p n f out w) (bounds : (0 < b) × (b ≤ 64))
+module _ {p n b levels places work : ℕ} (f : List ℕ) (lent : Lent p n (length f) places work) (bounds : (0 < b) × (b ≤ 64))
     (number : levels ≡ halvings (ceilDiv (length f) b)) where
   pub whole-levels : levels ≤ 12
   whole-levels = rw number (few-rounds b (length f) (bounds .0) (lent .outer))
@@ -36,7 +36,7 @@ module _ {p n b levels : ℕ} {f out w : List ℕ} (lent : Lent p n f out w) (bo
   pub whole-places : ((levels + 1) * n ≤ 13 * n) × ((levels + 2) * n ≤ 14 * n)
   whole-places = (mul-le-mul-right n (omega (arith, whole-levels)), mul-le-mul-right n (omega (arith, whole-levels)))
 
-  pub whole-powers : {v : List ℕ} → length v ≡ length w → PowerOperands p n levels v
+  pub whole-powers : {v : List ℕ} → length v ≡ work → PowerOperands p n levels v
   whole-powers size = record {
     modulus = lent .modulus;
     order = lent .order;
@@ -48,7 +48,7 @@ module _ {p n b levels : ℕ} {f out w : List ℕ} (lent : Lent p n f out w) (bo
     inner-kept : segment u 0 n ≡ segment v 0 n
     inner-kept = segment-within (made .within) 0 n (inl (omega arith))
 
-    pub whole-span : length v ≡ length w → SpanOperands p n b levels 0 ((levels + 1) * n) f u
+    pub whole-span : length v ≡ work → SpanOperands p n b levels 0 ((levels + 1) * n) f u
     whole-span size = record {
       modulus = lent .modulus;
       positive = lent .positive;

@@ -1,6 +1,7 @@
 -- The contract of a route: f(g) modulo x^n with the weight of its rule, and the work buffer cleared.
 --
---   Lent p n f out w     what every route requires of the modulus, the order, the outer list and the buffers lent to it
+--   Lent p n m places work   what every route requires of the modulus and the order, and of the counts of the outer list, of the output and
+--                        of the work buffer
 --   Route                what every route ensures
 --   Finished             the contract of `finish`
 --   copied-segment       a segment that is copied over a whole list
@@ -27,13 +28,13 @@ use Rattle.product.specs.Segments.{segment}
 use Rattle.route.specs.Table.{written-table}
 use Rattle.route.specs.Within.{Within, cleared-within, within-sets, within-trans, within-wider}
 
-pub record Lent (p n : ℕ) (f out w : List ℕ) : Type 0 where
+pub record Lent (p n m places work : ℕ) : Type 0 where
   pub modulus : 0 < p
   pub positive : 0 < n
   pub order : n ≤ 4096
-  pub outer : length f ≤ 4096
-  pub output : length out ≡ n
-  pub work : composeWork n (length f) ≤ length w
+  pub outer : m ≤ 4096
+  pub output : places ≡ n
+  pub enough : composeWork n m ≤ work
 
 pub record Route (p n : ℕ) (f g : List ℕ) (weight : ℕ) (out before after : List ℕ) (result : ℕ) : Type 0 where
   pub output : out ≡ composed p n f g
@@ -57,9 +58,9 @@ route-finished {t = t} {then = then} within value sum size done = record {
   work = done .work ∙ cleared-within within;
 }
 
-pub lent-places : {p n : ℕ} {f out w : List ℕ} → Lent p n f out w → 128 * n + 8 * length f ≤ length w
+pub lent-places : {p n m places work : ℕ} → Lent p n m places work → 128 * n + 8 * m ≤ work
 unfolding composeWork
-lent-places lent = lent .work
+lent-places lent = lent .enough
 
 pub put-within : {n k : ℕ} (m : ℕ) (g w : List ℕ) {u v : List ℕ} → v ≡ sets w 0 (tabulate n (coefficient g)) → Within n k v u
     → n + k ≤ 128 * n + 8 * m → Within 0 (composeWork n m) w u

@@ -39,7 +39,7 @@ finish-requires c κs =
     let places = put .before .before in
     let lent = places .before .before .before .before .before .pre in (
       omega (arith, lent-places lent, put .put .kept .1 .1 .0, part .horner-part .ensures .within .size, lent .output),
-      omega (arith, lent .work, places .work-places .ensures, put .put .kept .1 .1 .0, part .horner-part .ensures .within .size),
+      omega (arith, lent .enough, places .work-places .ensures, put .put .kept .1 .1 .0, part .horner-part .ensures .within .size),
     )
 
 same-length : tie.Need-same-length

@@ -22,12 +22,12 @@ rounds-requires c κs = search needs
 add-t : tie.Need-add-t
 add-t c =
     let begin = c .before .before .before .before .before .before in
-    record { fits = omega (arith, whole-levels (begin .pre) bounds (c .rounds .ensures)) }
+    record { fits = omega (arith, whole-levels (begin .args .f .now) (begin .pre) bounds (c .rounds .ensures)) }
 
 mul-t : tie.Need-mul-t
 mul-t c =
     let begin = c .before .before .before .before .before .before in
-    record { fits = omega (arith, whole-places (begin .pre) bounds (c .rounds .ensures) .0, begin .pre .order) }
+    record { fits = omega (arith, whole-places (begin .args .f .now) (begin .pre) bounds (c .rounds .ensures) .0, begin .pre .order) }
 
 put-requires : tie.Need-put-requires
 put-requires c κs =
@@ -39,7 +39,7 @@ powers-requires c κs =
     let put = c .before .before .before in
     let rounds = put .before .before in
     let begin = rounds .before .before .before .before .before .before in
-    whole-powers (begin .pre) bounds (rounds .rounds .ensures) (put .put .kept .1 .1 .0)
+    whole-powers (begin .args .f .now) (begin .pre) bounds (rounds .rounds .ensures) (put .put .kept .1 .1 .0)
 
 compose-span-requires : tie.Need-compose-span-requires
 unfolding blockLength
@@ -48,7 +48,7 @@ compose-span-requires c κs =
     let put = powers .before .before .before .before in
     let rounds = put .before .before in
     let begin = rounds .before .before .before .before .before .before in
-    whole-span (begin .pre) bounds (rounds .rounds .ensures) (powers .powers .ensures) (put .put .kept .1 .1 .0)
+    whole-span (begin .args .f .now) (begin .pre) bounds (rounds .rounds .ensures) (powers .powers .ensures) (put .put .kept .1 .1 .0)
 
 add-sum : tie.Need-add-sum
 unfolding blockLength
@@ -57,7 +57,7 @@ add-sum c =
     let powers = span .before .before .before .before in
     let rounds = powers .before .before .before .before .before .before in
     let begin = rounds .before .before .before .before .before .before in
-    record { fits = omega (arith, whole-small (begin .pre) bounds (rounds .rounds .ensures) (powers .powers .ensures) (span .compose-span .ensures)) }
+    record { fits = omega (arith, whole-small (begin .args .f .now) (begin .pre) bounds (rounds .rounds .ensures) (powers .powers .ensures) (span .compose-span .ensures)) }
 
 finish-requires : tie.Need-finish-requires
 unfolding blockLength
@@ -68,16 +68,16 @@ finish-requires c κs =
     let rounds = put .before .before in
     let places = rounds .before in
     let begin = places .before .before .before .before .before in
-    let size = whole-within (begin .pre) bounds (rounds .rounds .ensures) (powers .powers .ensures) (span .compose-span .ensures) .size in (
+    let size = whole-within (begin .args .f .now) (begin .pre) bounds (rounds .rounds .ensures) (powers .powers .ensures) (span .compose-span .ensures) .size in (
       omega (
         arith,
         lent-places (begin .pre),
-        whole-places (begin .pre) bounds (rounds .rounds .ensures) .0,
+        whole-places (begin .args .f .now) (begin .pre) bounds (rounds .rounds .ensures) .0,
         begin .pre .output,
         put .put .kept .1 .1 .0,
         size,
       ),
-      omega (arith, begin .pre .work, places .work-places .ensures, put .put .kept .1 .1 .0, size),
+      omega (arith, begin .pre .enough, places .work-places .ensures, put .put .kept .1 .1 .0, size),
     )
 
 same-length : tie.Need-same-length
@@ -103,10 +103,10 @@ returns c =
     let made = powers .powers .ensures in
     let joined = span .compose-span .ensures in
     route-finished
-    (put-within (length f) g w (put .put .ensures) (whole-within (begin .pre) bounds number made joined) (omega arith))
-    (whole-value (begin .pre) bounds number made joined
+    (put-within (length f) g w (put .put .ensures) (whole-within (begin .args .f .now) (begin .pre) bounds number made joined) (omega arith))
+    (whole-value (begin .args .f .now) (begin .pre) bounds number made joined
     ∙ put-composed f g w (put .put .last .1 .1 .0) (begin .pre .modulus) (omega (arith, lent-places (begin .pre))) (put .put .ensures))
-    (whole-weight (begin .pre) bounds number made joined)
+    (whole-weight (begin .args .f .now) (begin .pre) bounds number made joined)
     (begin .pre .output)
     (rw (places .work-places .ensures) at (finish .finish .ensures))
 
