@@ -3,7 +3,8 @@
 ghost use Prim.Native.Nat.{_<_};
 ghost use lib.ListN.{length};
 ghost use Rattle.definition.specs.Prime.{Prime};
-ghost use Rattle.definition.specs.Weight.{hornerWeight};
+ghost use Rattle.definition.specs.Ranged.{blockLength};
+ghost use Rattle.definition.specs.Weight.{hornerWeight, rangedWeight};
 ghost use Rattle.route.specs.Contract.{Lent};
 ghost use Rattle.trial.specs.Tried.{Decides, Tried};
 
@@ -43,6 +44,25 @@ pub extern "C" fn trial_horner(
 {
     if takes(p, n, f.len(), out.len(), w.len()) {
         horner::horner(p, n, f, g, out, w)
+    } else {
+        18446744073709551615
+    }
+}
+
+// Route 2.
+#[no_mangle]
+pub extern "C" fn trial_ranged(
+    p: u32,
+    n: usize,
+    f: &[u32],
+    g: &[u32],
+    out: &mut [u32],
+    w: &mut [u32],
+) -> u64
+    ensures { λ r. ⌜ Tried (Lent p n (length (now (f .entry))) (length (now (out .entry))) (length (now (w .entry)))) p n (now (f .entry)) (now (g .entry)) (rangedWeight blockLength n (length (now (f .entry)))) (now (out .entry)) (now (out .exit)) (now (w .entry)) (now (w .exit)) r ⌝ }
+{
+    if takes(p, n, f.len(), out.len(), w.len()) {
+        ranged::ranged(p, n, f, g, out, w)
     } else {
         18446744073709551615
     }
