@@ -1,0 +1,8 @@
+-- The contracts of route 3 and the laws behind them.
+--
+--   Counts    the counts and the orders of the parts
+--   Weights   the weight by levels
+--   Split     the parts, joined by Horner's rule, are f(g)
+pub mod Counts
+pub mod Weights
+pub mod Split

@@ -1,0 +1,1 @@
+// Route 3, Bernstein (document 000, section 2).
