@@ -3,6 +3,12 @@
 --   Counts    the counts and the orders of the parts
 --   Weights   the weight by levels
 --   Split     the parts, joined by Horner's rule, are f(g)
+--   Level     the contracts
+--   Steps     tables written from a segment
+--   Join      the join of one part more
 pub mod Counts
 pub mod Weights
 pub mod Split
+pub mod Level
+pub mod Steps
+pub mod Join

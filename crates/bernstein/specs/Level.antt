@@ -1,0 +1,64 @@
+-- The contracts of route 3. A level works on a list w: g at place 0, f at n, the value at n + m, the next part's value at n + m + n; the rest
+-- from n + m + n + n on is lent to the next level.
+--
+--   nextAt restAt     where the next part's value and the rest begin
+--   Room              what a level requires
+--   Level             what a level ensures
+--   Parted            the contract of `part`
+--   PartReady         what `part_value` requires: h stands at the beginning of the rest
+--   PartValue         what `part_value` ensures
+--   Joined            the contract of `join`
+-- Assumes nothing.
+use Prim.Native.Nat.{ℕ, _+_, _*_, _<_, _≤_}
+use mathlib.Core.Path.{_≡_}
+use mathlib.Core.List.{List}
+use lib.ListN.{length, take}
+use lib.Seq.{sets}
+use Rattle.bernstein.specs.Split.{partValue}
+use Rattle.definition.specs.Bernstein.{part, partCount, pthPowers, spreadList}
+use Rattle.definition.specs.Lists.{ceilDiv}
+use Rattle.definition.specs.Prime.{Prime}
+use Rattle.definition.specs.Ranged.{joined}
+use Rattle.definition.specs.Substitution.{composed}
+use Rattle.definition.specs.Weight.{bernsteinWeight}
+use Rattle.product.specs.Segments.{segment}
+use Rattle.route.specs.Within.{Within}
+
+abbrev pub nextAt : ℕ → ℕ → ℕ
+nextAt n m = n + m + n
+
+abbrev pub restAt : ℕ → ℕ → ℕ
+restAt n m = n + m + n + n
+
+pub record Room (p n m : ℕ) (w : List ℕ) : Type 0 where
+  pub prime : Prime p
+  pub positive : 0 < n
+  pub order : n ≤ 4096
+  pub outer : m ≤ 4096
+  pub room : 6 * (n + m) ≤ length w
+
+pub record Level (p n m : ℕ) (before after : List ℕ) (result : ℕ) : Type 0 where
+  pub within : Within (n + m) (5 * (n + m)) before after
+  pub value : segment after (n + m) n ≡ composed p n (segment before n m) (segment before 0 n)
+  pub sum : result ≡ bernsteinWeight p n m
+
+pub record Parted (p j a m t : ℕ) (before after : List ℕ) (result : ℕ) : Type 0 where
+  pub written : after ≡ sets before t (part p j (segment before a m))
+  pub count : result ≡ partCount p j m
+
+pub record PartReady (p n m j : ℕ) (w : List ℕ) : Type 0 where
+  pub room : Room p n m w
+  pub several : 1 < m
+  pub index : j < m
+  pub powers : segment w (restAt n m) (ceilDiv n p) ≡ pthPowers p (segment w 0 (ceilDiv n p))
+
+pub record PartValue (p n m j : ℕ) (before after : List ℕ) (result : ℕ) : Type 0 where
+  pub within : Within (nextAt n m) (4 * n + 5 * m) before after
+  pub powers : segment after (restAt n m) (ceilDiv n p) ≡ segment before (restAt n m) (ceilDiv n p)
+  pub next : segment after (nextAt n m) n ≡ spreadList p n (partValue p n (segment before n m) (segment before 0 n) j)
+  pub sum : result ≡ bernsteinWeight p (ceilDiv n p) (partCount p j m)
+
+pub record Joined (p n m : ℕ) (before after : List ℕ) (result : ℕ) : Type 0 where
+  pub within : Within (n + m) (n + n) before after
+  pub value : segment after (n + m) n ≡ joined p n (segment before (nextAt n m) n) (segment before (n + m) n) (segment before 0 n)
+  pub places : result ≡ n
