@@ -8,21 +8,25 @@
 --   PartReady         what `part_value` requires: h stands at the beginning of the rest
 --   PartValue         what `part_value` ensures
 --   Joined            the contract of `join`
+--   level-constant    a level with at most one place of f
 -- Assumes nothing.
 use Prim.Native.Nat.{ℕ, _+_, _*_, _<_, _≤_}
-use mathlib.Core.Path.{_≡_}
+use native.Mathlib.Omega.{arith}
+use mathlib.Core.Path.{_≡_, sym}
 use mathlib.Core.List.{List}
-use lib.ListN.{length, take}
+use lib.ListN.{length}
 use lib.Seq.{sets}
+use Rattle.algebra.specs.Lists.{length-tabulate}
 use Rattle.bernstein.specs.Split.{partValue}
+use Rattle.bernstein.specs.Weights.{weight-low}
 use Rattle.definition.specs.Bernstein.{part, partCount, pthPowers, spreadList}
 use Rattle.definition.specs.Lists.{ceilDiv}
 use Rattle.definition.specs.Prime.{Prime}
 use Rattle.definition.specs.Ranged.{joined}
-use Rattle.definition.specs.Substitution.{composed}
+use Rattle.definition.specs.Substitution.{composed, composedAt}
 use Rattle.definition.specs.Weight.{bernsteinWeight}
 use Rattle.product.specs.Segments.{segment}
-use Rattle.route.specs.Within.{Within}
+use Rattle.route.specs.Within.{Within, within-sets, segment-sets}
 
 abbrev pub nextAt : ℕ → ℕ → ℕ
 nextAt n m = n + m + n
@@ -62,3 +66,18 @@ pub record Joined (p n m : ℕ) (before after : List ℕ) (result : ℕ) : Type 
   pub within : Within (n + m) (n + n) before after
   pub value : segment after (n + m) n ≡ joined p n (segment before (nextAt n m) n) (segment before (n + m) n) (segment before 0 n)
   pub places : result ≡ n
+
+length-composed : (p n : ℕ) (f g : List ℕ) → length (composed p n f g) ≡ n
+unfolding composed
+length-composed p n f g = length-tabulate n (composedAt p f g)
+
+pub level-constant : {p n m : ℕ} {before after : List ℕ} → Room p n m before → m ≤ 1
+    → after ≡ sets before (n + m) (composed p n (segment before n m) (segment before 0 n)) → Level p n m before after 0
+level-constant {p} {n} {m} {before} room low written =
+    let value = composed p n (segment before n m) (segment before 0 n) in
+    let size : length value ≡ n = length-composed p n (segment before n m) (segment before 0 n) in
+    record {
+      within = rw written (within-sets before (n + m) value (omega arith) (omega arith));
+      value = rw written (segment-sets before (n + m) value n size (omega arith));
+      sum = sym (weight-low p n m low);
+    }

@@ -2,12 +2,15 @@
 --
 --   remaining p n m j   the weight that is still to come: a product for each part below j, and their own weights
 --   Prepared            h stands at the beginning of the rest
+--   room-powers         where it is written
 --   prepared-first      after it was written
 --   prepared-ready      the value of a part can be computed
 --   PartsJoined         what holds when part j is joined, of the list at the beginning, the list now and the weight so far
 --   parts-first         after the top part
+--   parts-rebased level-rebased   the same, from a later list on, and a level that was done from there on
+--   parts-room          there is room for the join
 --   parts-turn          after one part more
---   parts-weight        the weight of one part more
+--   parts-small         the weight of one part more fits 64 bits
 --   parts-level         after all of them
 -- Assumes nothing.
 use Prim.Native.Nat.{ℕ, suc, _+_, _*_, _-_, _^_, _<_, _≤_, min}
@@ -30,7 +33,7 @@ use Rattle.definition.specs.Lists.{sum, ceilDiv}
 use Rattle.definition.specs.Prime.{Prime}
 use Rattle.definition.specs.Weight.{bernsteinWeight}
 use Rattle.product.specs.Segments.{segment, Apart}
-use Rattle.route.specs.Within.{Within, within-trans, within-wider, within-sets, segment-within, segment-sets}
+use Rattle.route.specs.Within.{Within, within-refl, within-trans, within-wider, within-sets, segment-within, segment-sets}
 
 abbrev pub remaining : ℕ → ℕ → ℕ → ℕ → ℕ
 remaining p n m j = j * n + sum j (weightOfPart p n m)
@@ -54,20 +57,28 @@ pub record Prepared (p n m : ℕ) (before now : List ℕ) : Type 0 where
   pub within : Within (n + m) (5 * (n + m)) before now
   pub powers : segment now (restAt n m) (ceilDiv n p) ≡ pthPowers p (segment before 0 (ceilDiv n p))
 
-pub prepared-first : {p n m : ℕ} {before now : List ℕ} → Room p n m before → 1 < m
-    → now ≡ sets before (restAt n m) (pthPowers p (segment before 0 (ceilDiv n p))) → Prepared p n m before now
-unfolding pthPowers
-prepared-first {p} {n} {m} {before} room several written =
-    let order = ceilDiv n p in
-    let half = ceilDiv-half (room .prime .above-one) n in
-    let g = segment before 0 order in
-    let size : length (pthPowers p g) ≡ order = length-tabulate (length g) (pthPowerAt p g) ∙ length-part before 0 order (omega arith) in
-    record {
-      room = room;
-      several = several;
-      within = rw written (within-sets before (restAt n m) (pthPowers p g) (omega arith) (omega arith));
-      powers = rw written (segment-sets before (restAt n m) (pthPowers p g) order size (omega arith));
-    }
+module _ {p n m order : ℕ} {before : List ℕ} (room : Room p n m before) (rounded : order ≡ ceilDiv n p) where
+  half-order : 2 * order ≤ n + 1
+  half-order = rw rounded (ceilDiv-half (room .prime .above-one) n)
+
+  pub room-powers : Apart before 0 order (restAt n m) order
+  room-powers = record { source = omega (arith, half-order); target = omega (arith, half-order); apart = inl (omega (arith, half-order)) }
+
+  abbrev h : List ℕ
+  h = pthPowers p (segment before 0 order)
+
+  length-powers : length h ≡ order
+  unfolding pthPowers
+  length-powers =
+      length-tabulate (length (segment before 0 order)) (pthPowerAt p (segment before 0 order)) ∙ length-part before 0 order (room-powers .source)
+
+  pub prepared-first : {now : List ℕ} → 1 < m → now ≡ sets before (restAt n m) h → Prepared p n m before now
+  prepared-first several written = record {
+    room = room;
+    several = several;
+    within = rw written (within-sets before (restAt n m) h (omega arith) (omega (arith, length-powers, half-order)));
+    powers = rw (← rounded, written) (segment-sets before (restAt n m) h order length-powers (room-powers .target));
+  }
 
 module _ {p n m : ℕ} {before now : List ℕ} (prepared : Prepared p n m before now) where
   half : 2 * ceilDiv n p ≤ n + 1
@@ -82,6 +93,13 @@ module _ {p n m : ℕ} {before now : List ℕ} (prepared : Prepared p n m before
     several = prepared .several;
     index = b;
     powers = prepared .powers ∙ ap (pthPowers p) (sym (kept 0 (ceilDiv n p) (omega (arith, half))));
+  }
+
+  pub level-rebased : {after : List ℕ} {weight : ℕ} → Level p n m now after weight → Level p n m before after weight
+  level-rebased level = record {
+    within = within-trans (prepared .within) (level .within);
+    value = level .value ∙ rw (kept n m (omega arith), kept 0 n (omega arith));
+    sum = level .sum;
   }
 
   -- the value and the next part's value are written
@@ -133,8 +151,13 @@ parts-first {p} {n} {m} {j} {before} prepared top part moved =
 
 module _ {p n m j : ℕ} {before now : List ℕ} {weight : ℕ} (done : PartsJoined p n m before j now weight) where
   module _ {i : ℕ} (down : suc i ≡ j) where
-    pub parts-weight : weight + weightOfPart p n m i + n + remaining p n m i ≡ bernsteinWeight p n m
+    parts-weight : weight + weightOfPart p n m i + n + remaining p n m i ≡ bernsteinWeight p n m
     parts-weight = omega (arith, rw (← down) at (done .sum), remaining-next p n m i)
+
+    pub parts-small : weight + weightOfPart p n m i + n < 2 ^ 64
+    parts-small =
+        let room = done .prepared .room in
+        omega (arith, parts-weight, weight-small (room .prime .above-one) n m (room .order) (room .outer))
 
     pub parts-turn : {then after : List ℕ} {a b : ℕ} → PartValue p n m i now then a → Joined p n m then after b
         → PartsJoined p n m before i after (weight + a + b)
@@ -156,6 +179,19 @@ module _ {p n m j : ℕ} {before now : List ℕ} {weight : ℕ} (done : PartsJoi
               (rw (length-outer (done .prepared .room)) (omega (arith, done .index))));
           sum = rw (part .sum, join .places) parts-weight;
         }
+
+  pub parts-rebased : PartsJoined p n m now j now weight
+  parts-rebased =
+      let ready = prepared-ready (done .prepared) j (omega (arith, done .index)) in
+      record {
+        prepared = record { room = ready .room; several = ready .several; within = within-refl (n + m) (5 * (n + m)) now; powers = ready .powers };
+        index = done .index;
+        value = λ P. done .value P ∙ rw (kept (done .prepared) n m (omega arith), kept (done .prepared) 0 n (omega arith));
+        sum = done .sum;
+      }
+
+  pub parts-room : {i a : ℕ} {then : List ℕ} → PartValue p n m i now then a → Room p n m then
+  parts-room part = let next = prepared-part (done .prepared) part in room-length (next .within .size) (next .room)
 
   pub parts-level : j ≡ 0 → Level p n m before now weight
   parts-level e =

@@ -1,4 +1,30 @@
-use Prim.Native.Nat.{ℕ, _<_}
+-- The proof of the cycle of calls {level, part_value, parts}. The count of the outer list falls from a level to the next; within a level `level` calls
+-- `parts`, and `parts` calls `part_value`. Assumes nothing.
+use Prim.Native.Nat.{ℕ, suc, _+_, _*_, _-_, _<_}
+use borrow.Author.Needs.{needs}
+use native.Mathlib.Omega.{arith}
+use mathlib.Core.Path.{_≡_, refl, sym, ap, _∙_}
+use lib.ListN.{drop}
+use lib.Seq.{sets}
+use Rattle.bernstein.specs.Level.{level-constant}
+use Rattle.bernstein.specs.Loop.{
+  PartsJoined,
+  Prepared,
+  level-rebased,
+  parts-first,
+  parts-level,
+  parts-rebased,
+  parts-room,
+  parts-small,
+  parts-turn,
+  prepared-first,
+  prepared-ready,
+  room-powers,
+}
+use Rattle.bernstein.specs.Rest.{fewer, rest-fits, part-value-written, room-part, room-rest, room-spread}
+use Rattle.definition.specs.Bernstein.{part, partCount}
+use Rattle.definition.specs.Lists.{ceilDiv}
+use Rattle.product.specs.Segments.{segment}
 use borrow.Fn.Kinds.{In}
 use borrow.Fn.PlainCycle.{Measures, is, falls, and}
 use Rattle.bernstein.proofs.level.Reads as level
@@ -22,652 +48,260 @@ use Rattle.bernstein.proofs.+level+part_value+parts.{statement}
 use Rattle.bernstein.proofs.+level+part_value+parts.Tie.{close}
 
 abbrev μ-level : Measures 1 level-kinds.ps ℕ
-μ-level κs a = ?
+μ-level κs a = 3 * a .1 .1 .0 + 2
 
 abbrev μ-part-value : Measures 1 part-value-kinds.ps ℕ
-μ-part-value κs a = ?
+μ-part-value κs a = 3 * a .1 .1 .0
 
 abbrev μ-parts : Measures 1 parts-kinds.ps ℕ
-μ-parts κs a = ?
+μ-parts κs a = 3 * a .1 .1 .0 + 1
 
-abbrev level-at : ℕ → In 1 level-kinds.ps
-level-at t = and 1 level-kinds.ps (is 1 level-kinds.ps μ-level t) level.Pre
+module _ (t : ℕ) where
+  abbrev level-at : In 1 level-kinds.ps
+  level-at = and 1 level-kinds.ps (is 1 level-kinds.ps μ-level t) level.Pre
 
-abbrev level-below : ℕ → In 1 level-kinds.ps
-level-below t = and 1 level-kinds.ps (falls 1 level-kinds.ps _<_ μ-level t) level.Pre
+  abbrev level-below : In 1 level-kinds.ps
+  level-below = and 1 level-kinds.ps (falls 1 level-kinds.ps _<_ μ-level t) level.Pre
 
-abbrev part-value-at : ℕ → In 1 part-value-kinds.ps
-part-value-at t =
-    and 1 part-value-kinds.ps (is 1 part-value-kinds.ps μ-part-value t) part-value.Pre
+  abbrev part-value-at : In 1 part-value-kinds.ps
+  part-value-at = and 1 part-value-kinds.ps (is 1 part-value-kinds.ps μ-part-value t) part-value.Pre
 
-abbrev part-value-below : ℕ → In 1 part-value-kinds.ps
-part-value-below t =
-    and 1 part-value-kinds.ps (falls 1 part-value-kinds.ps _<_ μ-part-value t) part-value.Pre
+  abbrev part-value-below : In 1 part-value-kinds.ps
+  part-value-below = and 1 part-value-kinds.ps (falls 1 part-value-kinds.ps _<_ μ-part-value t) part-value.Pre
 
-abbrev parts-at : ℕ → In 1 parts-kinds.ps
-parts-at t = and 1 parts-kinds.ps (is 1 parts-kinds.ps μ-parts t) parts.Pre
+  abbrev parts-at : In 1 parts-kinds.ps
+  parts-at = and 1 parts-kinds.ps (is 1 parts-kinds.ps μ-parts t) parts.Pre
 
-abbrev parts-below : ℕ → In 1 parts-kinds.ps
-parts-below t = and 1 parts-kinds.ps (falls 1 parts-kinds.ps _<_ μ-parts t) parts.Pre
+  abbrev parts-below : In 1 parts-kinds.ps
+  parts-below = and 1 parts-kinds.ps (falls 1 parts-kinds.ps _<_ μ-parts t) parts.Pre
 
--- src/lib.rt:143:9
-level-constant-requires : (t : ℕ) → level-lts.Need-constant-requires (
-  constant-reads.Asked,
-  constant-reads.Learnt,
-  parts-below t,
-  parts.Post,
-) (level-at t) level.Post
-level-constant-requires t c κs = ?
+  abbrev level-calls : level-lts.Claims
+  level-calls = (constant-reads.Asked, constant-reads.Learnt, parts-below, parts.Post)
 
--- src/lib.rt:146:9
-level-parts-requires : (t : ℕ) → level-lts.Need-parts-requires (
-  constant-reads.Asked,
-  constant-reads.Learnt,
-  parts-below t,
-  parts.Post,
-) (level-at t) level.Post
-level-parts-requires t c κs = ?
+  abbrev part-value-calls : part-value-lts.Claims
+  part-value-calls = (
+    rounded-up-reads.Asked,
+    rounded-up-reads.Learnt,
+    part-reads.Asked,
+    part-reads.Learnt,
+    level-below,
+    level.Post,
+    spread-reads.Asked,
+    spread-reads.Learnt,
+  )
 
--- src/lib.rt:138:1
-level-same-length : (t : ℕ) → level-lts.Need-same-length (
-  constant-reads.Asked,
-  constant-reads.Learnt,
-  parts-below t,
-  parts.Post,
-) (level-at t) level.Post
-level-same-length t c = ?
+  abbrev parts-calls : parts-lts.Claims
+  parts-calls = (
+    rounded-up-reads.Asked,
+    rounded-up-reads.Learnt,
+    pth-powers-reads.Asked,
+    pth-powers-reads.Learnt,
+    smaller-reads.Asked,
+    smaller-reads.Learnt,
+    part-value-below,
+    part-value.Post,
+    move-down-reads.Asked,
+    move-down-reads.Learnt,
+    join-reads.Asked,
+    join-reads.Learnt,
+  )
 
--- src/lib.rt:138:1
-level-returns : (t : ℕ) → level-lts.Need-returns (
-  constant-reads.Asked,
-  constant-reads.Learnt,
-  parts-below t,
-  parts.Post,
-) (level-at t) level.Post
-level-returns t c = ?
+  level-constant-requires : level-lts.Need-constant-requires level-calls level-at level.Post
+  level-constant-requires c κs = search needs
 
--- src/lib.rt:138:1
-level-same-length-2 : (t : ℕ) → level-lts.Need-same-length-2 (
-  constant-reads.Asked,
-  constant-reads.Learnt,
-  parts-below t,
-  parts.Post,
-) (level-at t) level.Post
-level-same-length-2 t c = ?
+  level-parts-requires : level-lts.Need-parts-requires level-calls level-at level.Post
+  level-parts-requires c κs = search needs
 
--- src/lib.rt:138:1
-level-returns-2 : (t : ℕ) → level-lts.Need-returns-2 (
-  constant-reads.Asked,
-  constant-reads.Learnt,
-  parts-below t,
-  parts.Post,
-) (level-at t) level.Post
-level-returns-2 t c = ?
+  level-same-length : level-lts.Need-same-length level-calls level-at level.Post
+  level-same-length c = search needs
 
--- src/lib.rt:107:16
-part-value-add-next : (t : ℕ) → part-value-lts.Need-add-next (
-  rounded-up-reads.Asked,
-  rounded-up-reads.Learnt,
-  part-reads.Asked,
-  part-reads.Learnt,
-  level-below t,
-  level.Post,
-  spread-reads.Asked,
-  spread-reads.Learnt,
-) (part-value-at t) part-value.Post
-part-value-add-next t c = ?
+  level-returns : level-lts.Need-returns level-calls level-at level.Post
+  level-returns c = level-constant (c .before .before .before .before .before .before .pre .1) (c .before .before .before .before .if1 .taken) (c .before .before .constant .ensures)
 
--- src/lib.rt:107:16
-part-value-add-next-2 : (t : ℕ) → part-value-lts.Need-add-next-2 (
-  rounded-up-reads.Asked,
-  rounded-up-reads.Learnt,
-  part-reads.Asked,
-  part-reads.Learnt,
-  level-below t,
-  level.Post,
-  spread-reads.Asked,
-  spread-reads.Learnt,
-) (part-value-at t) part-value.Post
-part-value-add-next-2 t c = ?
+  level-same-length-2 : level-lts.Need-same-length-2 level-calls level-at level.Post
+  level-same-length-2 c = search needs
 
--- src/lib.rt:108:16
-part-value-add-rest : (t : ℕ) → part-value-lts.Need-add-rest (
-  rounded-up-reads.Asked,
-  rounded-up-reads.Learnt,
-  part-reads.Asked,
-  part-reads.Learnt,
-  level-below t,
-  level.Post,
-  spread-reads.Asked,
-  spread-reads.Learnt,
-) (part-value-at t) part-value.Post
-part-value-add-rest t c = ?
+  level-returns-2 : level-lts.Need-returns-2 level-calls level-at level.Post
+  level-returns-2 c = search needs
 
--- src/lib.rt:110:9
-part-value-rounded-up-requires : (t : ℕ) → part-value-lts.Need-rounded-up-requires (
-  rounded-up-reads.Asked,
-  rounded-up-reads.Learnt,
-  part-reads.Asked,
-  part-reads.Learnt,
-  level-below t,
-  level.Post,
-  spread-reads.Asked,
-  spread-reads.Learnt,
-) (part-value-at t) part-value.Post
-part-value-rounded-up-requires t c κs = ?
+  part-value-add-next : part-value-lts.Need-add-next part-value-calls part-value-at part-value.Post
+  part-value-add-next c = search needs
 
--- src/lib.rt:111:40
-part-value-add-part : (t : ℕ) → part-value-lts.Need-add-part (
-  rounded-up-reads.Asked,
-  rounded-up-reads.Learnt,
-  part-reads.Asked,
-  part-reads.Learnt,
-  level-below t,
-  level.Post,
-  spread-reads.Asked,
-  spread-reads.Learnt,
-) (part-value-at t) part-value.Post
-part-value-add-part t c = ?
+  part-value-add-next-2 : part-value-lts.Need-add-next-2 part-value-calls part-value-at part-value.Post
+  part-value-add-next-2 c = search needs
 
--- src/lib.rt:111:9
-part-value-part-requires : (t : ℕ) → part-value-lts.Need-part-requires (
-  rounded-up-reads.Asked,
-  rounded-up-reads.Learnt,
-  part-reads.Asked,
-  part-reads.Learnt,
-  level-below t,
-  level.Post,
-  spread-reads.Asked,
-  spread-reads.Learnt,
-) (part-value-at t) part-value.Post
-part-value-part-requires t c κs = ?
+  part-value-add-rest : part-value-lts.Need-add-rest part-value-calls part-value-at part-value.Post
+  part-value-add-rest c = search needs
 
--- src/lib.rt:112:41
-part-value-mul-level : (t : ℕ) → part-value-lts.Need-mul-level (
-  rounded-up-reads.Asked,
-  rounded-up-reads.Learnt,
-  part-reads.Asked,
-  part-reads.Learnt,
-  level-below t,
-  level.Post,
-  spread-reads.Asked,
-  spread-reads.Learnt,
-) (part-value-at t) part-value.Post
-part-value-mul-level t c = ?
+  part-value-rounded-up-requires : part-value-lts.Need-rounded-up-requires part-value-calls part-value-at part-value.Post
+  part-value-rounded-up-requires c κs = search needs
 
--- src/lib.rt:112:41
-part-value-sub-level : (t : ℕ) → part-value-lts.Need-sub-level (
-  rounded-up-reads.Asked,
-  rounded-up-reads.Learnt,
-  part-reads.Asked,
-  part-reads.Learnt,
-  level-below t,
-  level.Post,
-  spread-reads.Asked,
-  spread-reads.Learnt,
-) (part-value-at t) part-value.Post
-part-value-sub-level t c = ?
+  part-value-add-part : part-value-lts.Need-add-part part-value-calls part-value-at part-value.Post
+  part-value-add-part c = omega (arith, room-part (c .before .before .before .pre .1) (c .before .rounded-up .ensures) .target)
 
--- src/lib.rt:112:41
-part-value-part-level-start : (t : ℕ) → part-value-lts.Need-part-level-start (
-  rounded-up-reads.Asked,
-  rounded-up-reads.Learnt,
-  part-reads.Asked,
-  part-reads.Learnt,
-  level-below t,
-  level.Post,
-  spread-reads.Asked,
-  spread-reads.Learnt,
-) (part-value-at t) part-value.Post
-part-value-part-level-start t c = ?
+  part-value-part-requires : part-value-lts.Need-part-requires part-value-calls part-value-at part-value.Post
+  part-value-part-requires c κs = (
+    search needs,
+    search needs,
+    search needs,
+    room-part (c .before .before .before .pre .1) (c .before .rounded-up .ensures),
+  )
 
--- src/lib.rt:112:41
-part-value-part-level-end : (t : ℕ) → part-value-lts.Need-part-level-end (
-  rounded-up-reads.Asked,
-  rounded-up-reads.Learnt,
-  part-reads.Asked,
-  part-reads.Learnt,
-  level-below t,
-  level.Post,
-  spread-reads.Asked,
-  spread-reads.Learnt,
-) (part-value-at t) part-value.Post
-part-value-part-level-end t c = ?
+  part-value-mul-level : part-value-lts.Need-mul-level part-value-calls part-value-at part-value.Post
+  part-value-mul-level c = search needs
 
--- src/lib.rt:112:9
-part-value-level-requires : (t : ℕ) → part-value-lts.Need-level-requires (
-  rounded-up-reads.Asked,
-  rounded-up-reads.Learnt,
-  part-reads.Asked,
-  part-reads.Learnt,
-  level-below t,
-  level.Post,
-  spread-reads.Asked,
-  spread-reads.Learnt,
-) (part-value-at t) part-value.Post
-part-value-level-requires t c κs = ?
+  part-value-sub-level : part-value-lts.Need-sub-level part-value-calls part-value-at part-value.Post
+  part-value-sub-level c = search needs
 
--- src/lib.rt:113:32
-part-value-add-spread : (t : ℕ) → part-value-lts.Need-add-spread (
-  rounded-up-reads.Asked,
-  rounded-up-reads.Learnt,
-  part-reads.Asked,
-  part-reads.Learnt,
-  level-below t,
-  level.Post,
-  spread-reads.Asked,
-  spread-reads.Learnt,
-) (part-value-at t) part-value.Post
-part-value-add-spread t c = ?
+  part-value-part-level-start : part-value-lts.Need-part-level-start part-value-calls part-value-at part-value.Post
+  part-value-part-level-start c = search needs
 
--- src/lib.rt:113:24
-part-value-add-spread-2 : (t : ℕ) → part-value-lts.Need-add-spread-2 (
-  rounded-up-reads.Asked,
-  rounded-up-reads.Learnt,
-  part-reads.Asked,
-  part-reads.Learnt,
-  level-below t,
-  level.Post,
-  spread-reads.Asked,
-  spread-reads.Learnt,
-) (part-value-at t) part-value.Post
-part-value-add-spread-2 t c = ?
+  part-value-part-level-end : part-value-lts.Need-part-level-end part-value-calls part-value-at part-value.Post
+  part-value-part-level-end c = search needs
 
--- src/lib.rt:113:5
-part-value-spread-requires : (t : ℕ) → part-value-lts.Need-spread-requires (
-  rounded-up-reads.Asked,
-  rounded-up-reads.Learnt,
-  part-reads.Asked,
-  part-reads.Learnt,
-  level-below t,
-  level.Post,
-  spread-reads.Asked,
-  spread-reads.Learnt,
-) (part-value-at t) part-value.Post
-part-value-spread-requires t c κs = ?
+  part-value-level-requires : part-value-lts.Need-level-requires part-value-calls part-value-at part-value.Post
+  part-value-level-requires c κs =
+      let at = c .before .before .before in
+      let start = at .before .before .before .before in
+      let rounded = at .before .before .rounded-up .ensures in
+      (omega (arith, fewer (start .pre .1) rounded (at .part .ensures), start .pre .0), room-rest (start .pre .1) rounded (at .part .ensures))
 
--- src/lib.rt:103:1
-part-value-same-length : (t : ℕ) → part-value-lts.Need-same-length (
-  rounded-up-reads.Asked,
-  rounded-up-reads.Learnt,
-  part-reads.Asked,
-  part-reads.Learnt,
-  level-below t,
-  level.Post,
-  spread-reads.Asked,
-  spread-reads.Learnt,
-) (part-value-at t) part-value.Post
-part-value-same-length t c = ?
+  part-value-add-spread : part-value-lts.Need-add-spread part-value-calls part-value-at part-value.Post
+  part-value-add-spread c =
+      let at = c .before .before .before .before .before .before .before in
+      let start = at .before .before .before .before in
+      let rounded = at .before .before .rounded-up .ensures in
+      omega (arith, rest-fits (start .pre .1) rounded (at .part .ensures))
 
--- src/lib.rt:103:1
-part-value-returns : (t : ℕ) → part-value-lts.Need-returns (
-  rounded-up-reads.Asked,
-  rounded-up-reads.Learnt,
-  part-reads.Asked,
-  part-reads.Learnt,
-  level-below t,
-  level.Post,
-  spread-reads.Asked,
-  spread-reads.Learnt,
-) (part-value-at t) part-value.Post
-part-value-returns t c = ?
+  part-value-add-spread-2 : part-value-lts.Need-add-spread-2 part-value-calls part-value-at part-value.Post
+  part-value-add-spread-2 c =
+      let at = c .before .before .before .before .before .before .before in
+      let start = at .before .before .before .before in
+      let rounded = at .before .before .rounded-up .ensures in
+      omega (arith, rest-fits (start .pre .1) rounded (at .part .ensures))
 
-abbrev parts-Inv-loop : parts-lts.InvT-loop
-parts-Inv-loop p n m w₀ value next step j₀ weight₀ w j weight = ?
+  part-value-spread-requires : part-value-lts.Need-spread-requires part-value-calls part-value-at part-value.Post
+  part-value-spread-requires c κs =
+      let at = c .before .before .before .before .before .before .before in
+      let start = at .before .before .before .before in
+      let rounded = at .before .before .rounded-up .ensures in
+      (search needs, room-spread (start .pre .1) rounded (at .part .ensures) (c .before .before .before .level .ensures))
 
-abbrev parts-μ-loop : parts-lts.MeasureT-loop
-parts-μ-loop p n m w₀ value next step j₀ weight₀ w j weight = ?
+  part-value-same-length : part-value-lts.Need-same-length part-value-calls part-value-at part-value.Post
+  part-value-same-length c = search needs
 
--- src/lib.rt:122:17
-parts-add-value : (t : ℕ) → parts-lts.Need-add-value (
-  rounded-up-reads.Asked,
-  rounded-up-reads.Learnt,
-  pth-powers-reads.Asked,
-  pth-powers-reads.Learnt,
-  smaller-reads.Asked,
-  smaller-reads.Learnt,
-  part-value-below t,
-  part-value.Post,
-  move-down-reads.Asked,
-  move-down-reads.Learnt,
-  join-reads.Asked,
-  join-reads.Learnt,
-) (parts-at t) parts.Post parts-Inv-loop parts-μ-loop
-parts-add-value t c = ?
+  part-value-returns : part-value-lts.Need-returns part-value-calls part-value-at part-value.Post
+  part-value-returns c =
+      let at = c .before .before .before .before .before .before .before .before .before .before in
+      let start = at .before .before .before .before in
+      let rounded = at .before .before .rounded-up .ensures in
+      part-value-written (start .pre .1) rounded (at .part .ensures) (c .before .before .before .before .before .before .level .ensures) (c .before .before .spread .ensures)
 
--- src/lib.rt:123:16
-parts-add-next : (t : ℕ) → parts-lts.Need-add-next (
-  rounded-up-reads.Asked,
-  rounded-up-reads.Learnt,
-  pth-powers-reads.Asked,
-  pth-powers-reads.Learnt,
-  smaller-reads.Asked,
-  smaller-reads.Learnt,
-  part-value-below t,
-  part-value.Post,
-  move-down-reads.Asked,
-  move-down-reads.Learnt,
-  join-reads.Asked,
-  join-reads.Learnt,
-) (parts-at t) parts.Post parts-Inv-loop parts-μ-loop
-parts-add-next t c = ?
+  abbrev parts-Inv : parts-lts.InvT-loop
+  parts-Inv p n m w₀ value next step j₀ weight₀ w j weight = PartsJoined p n m w₀ j w weight
 
--- src/lib.rt:125:25
-parts-rounded-up-requires : (t : ℕ) → parts-lts.Need-rounded-up-requires (
-  rounded-up-reads.Asked,
-  rounded-up-reads.Learnt,
-  pth-powers-reads.Asked,
-  pth-powers-reads.Learnt,
-  smaller-reads.Asked,
-  smaller-reads.Learnt,
-  part-value-below t,
-  part-value.Post,
-  move-down-reads.Asked,
-  move-down-reads.Learnt,
-  join-reads.Asked,
-  join-reads.Learnt,
-) (parts-at t) parts.Post parts-Inv-loop parts-μ-loop
-parts-rounded-up-requires t c κs = ?
+  abbrev parts-μ : parts-lts.MeasureT-loop
+  parts-μ p n m w₀ value next step j₀ weight₀ w j weight = j
 
--- src/lib.rt:125:46
-parts-add-pth-powers : (t : ℕ) → parts-lts.Need-add-pth-powers (
-  rounded-up-reads.Asked,
-  rounded-up-reads.Learnt,
-  pth-powers-reads.Asked,
-  pth-powers-reads.Learnt,
-  smaller-reads.Asked,
-  smaller-reads.Learnt,
-  part-value-below t,
-  part-value.Post,
-  move-down-reads.Asked,
-  move-down-reads.Learnt,
-  join-reads.Asked,
-  join-reads.Learnt,
-) (parts-at t) parts.Post parts-Inv-loop parts-μ-loop
-parts-add-pth-powers t c = ?
+  parts-add-value : parts-lts.Need-add-value parts-calls parts-at parts.Post parts-Inv parts-μ
+  parts-add-value c = search needs
 
--- src/lib.rt:125:5
-parts-pth-powers-requires : (t : ℕ) → parts-lts.Need-pth-powers-requires (
-  rounded-up-reads.Asked,
-  rounded-up-reads.Learnt,
-  pth-powers-reads.Asked,
-  pth-powers-reads.Learnt,
-  smaller-reads.Asked,
-  smaller-reads.Learnt,
-  part-value-below t,
-  part-value.Post,
-  move-down-reads.Asked,
-  move-down-reads.Learnt,
-  join-reads.Asked,
-  join-reads.Learnt,
-) (parts-at t) parts.Post parts-Inv-loop parts-μ-loop
-parts-pth-powers-requires t c κs = ?
+  parts-add-next : parts-lts.Need-add-next parts-calls parts-at parts.Post parts-Inv parts-μ
+  parts-add-next c = search needs
 
--- src/lib.rt:126:17
-parts-smaller-requires : (t : ℕ) → parts-lts.Need-smaller-requires (
-  rounded-up-reads.Asked,
-  rounded-up-reads.Learnt,
-  pth-powers-reads.Asked,
-  pth-powers-reads.Learnt,
-  smaller-reads.Asked,
-  smaller-reads.Learnt,
-  part-value-below t,
-  part-value.Post,
-  move-down-reads.Asked,
-  move-down-reads.Learnt,
-  join-reads.Asked,
-  join-reads.Learnt,
-) (parts-at t) parts.Post parts-Inv-loop parts-μ-loop
-parts-smaller-requires t c κs = ?
+  parts-rounded-up-requires : parts-lts.Need-rounded-up-requires parts-calls parts-at parts.Post parts-Inv parts-μ
+  parts-rounded-up-requires c κs = search needs
 
--- src/lib.rt:126:17
-parts-sub-j : (t : ℕ) → parts-lts.Need-sub-j (
-  rounded-up-reads.Asked,
-  rounded-up-reads.Learnt,
-  pth-powers-reads.Asked,
-  pth-powers-reads.Learnt,
-  smaller-reads.Asked,
-  smaller-reads.Learnt,
-  part-value-below t,
-  part-value.Post,
-  move-down-reads.Asked,
-  move-down-reads.Learnt,
-  join-reads.Asked,
-  join-reads.Learnt,
-) (parts-at t) parts.Post parts-Inv-loop parts-μ-loop
-parts-sub-j t c = ?
+  parts-add-pth-powers : parts-lts.Need-add-pth-powers parts-calls parts-at parts.Post parts-Inv parts-μ
+  parts-add-pth-powers c = search needs
 
--- src/lib.rt:127:9
-parts-part-value-requires : (t : ℕ) → parts-lts.Need-part-value-requires (
-  rounded-up-reads.Asked,
-  rounded-up-reads.Learnt,
-  pth-powers-reads.Asked,
-  pth-powers-reads.Learnt,
-  smaller-reads.Asked,
-  smaller-reads.Learnt,
-  part-value-below t,
-  part-value.Post,
-  move-down-reads.Asked,
-  move-down-reads.Learnt,
-  join-reads.Asked,
-  join-reads.Learnt,
-) (parts-at t) parts.Post parts-Inv-loop parts-μ-loop
-parts-part-value-requires t c κs = ?
+  parts-pth-powers-requires : parts-lts.Need-pth-powers-requires parts-calls parts-at parts.Post parts-Inv parts-μ
+  parts-pth-powers-requires c κs =
+      let start = c .before .before .before in
+      (start .pre .1 .0 .prime, room-powers (start .pre .1 .0) (c .rounded-up .ensures))
 
--- src/lib.rt:128:5
-parts-move-down-requires : (t : ℕ) → parts-lts.Need-move-down-requires (
-  rounded-up-reads.Asked,
-  rounded-up-reads.Learnt,
-  pth-powers-reads.Asked,
-  pth-powers-reads.Learnt,
-  smaller-reads.Asked,
-  smaller-reads.Learnt,
-  part-value-below t,
-  part-value.Post,
-  move-down-reads.Asked,
-  move-down-reads.Learnt,
-  join-reads.Asked,
-  join-reads.Learnt,
-) (parts-at t) parts.Post parts-Inv-loop parts-μ-loop
-parts-move-down-requires t c κs = ?
+  -- h is written
+  abbrev parts-begin : parts-lts.After-pth-powers parts-calls parts-at parts.Post parts-Inv parts-μ → parts-lts.Start parts-calls parts-at parts.Post parts-Inv parts-μ
+  parts-begin c = c .before .before .before .before
 
--- src/lib.rt:129:5
-parts-loop-holds : (t : ℕ) → parts-lts.Need-loop-holds (
-  rounded-up-reads.Asked,
-  rounded-up-reads.Learnt,
-  pth-powers-reads.Asked,
-  pth-powers-reads.Learnt,
-  smaller-reads.Asked,
-  smaller-reads.Learnt,
-  part-value-below t,
-  part-value.Post,
-  move-down-reads.Asked,
-  move-down-reads.Learnt,
-  join-reads.Asked,
-  join-reads.Learnt,
-) (parts-at t) parts.Post parts-Inv-loop parts-μ-loop
-parts-loop-holds t c = ?
+  prepared : (c : parts-lts.After-pth-powers parts-calls parts-at parts.Post parts-Inv parts-μ)
+      → (let args = parts-begin c .args in Prepared (args .p) (args .n) (args .m) (args .w .now) (c .pth-powers .last .1 .0))
+  prepared c = prepared-first (parts-begin c .pre .1 .0) (c .before .rounded-up .ensures) (parts-begin c .pre .1 .1) (c .pth-powers .ensures)
 
--- src/lib.rt:130:9
-parts-sub-j-2 : (t : ℕ) → parts-lts.Need-sub-j-2 (
-  rounded-up-reads.Asked,
-  rounded-up-reads.Learnt,
-  pth-powers-reads.Asked,
-  pth-powers-reads.Learnt,
-  smaller-reads.Asked,
-  smaller-reads.Learnt,
-  part-value-below t,
-  part-value.Post,
-  move-down-reads.Asked,
-  move-down-reads.Learnt,
-  join-reads.Asked,
-  join-reads.Learnt,
-) (parts-at t) parts.Post parts-Inv-loop parts-μ-loop
-parts-sub-j-2 t c = ?
+  parts-smaller-requires : parts-lts.Need-smaller-requires parts-calls parts-at parts.Post parts-Inv parts-μ
+  parts-smaller-requires c κs = search needs
 
--- src/lib.rt:131:19
-parts-part-value-requires-2 : (t : ℕ) → parts-lts.Need-part-value-requires-2 (
-  rounded-up-reads.Asked,
-  rounded-up-reads.Learnt,
-  pth-powers-reads.Asked,
-  pth-powers-reads.Learnt,
-  smaller-reads.Asked,
-  smaller-reads.Learnt,
-  part-value-below t,
-  part-value.Post,
-  move-down-reads.Asked,
-  move-down-reads.Learnt,
-  join-reads.Asked,
-  join-reads.Learnt,
-) (parts-at t) parts.Post parts-Inv-loop parts-μ-loop
-parts-part-value-requires-2 t c κs = ?
+  parts-sub-j : parts-lts.Need-sub-j parts-calls parts-at parts.Post parts-Inv parts-μ
+  parts-sub-j c = search needs
 
--- src/lib.rt:131:9
-parts-add-weight : (t : ℕ) → parts-lts.Need-add-weight (
-  rounded-up-reads.Asked,
-  rounded-up-reads.Learnt,
-  pth-powers-reads.Asked,
-  pth-powers-reads.Learnt,
-  smaller-reads.Asked,
-  smaller-reads.Learnt,
-  part-value-below t,
-  part-value.Post,
-  move-down-reads.Asked,
-  move-down-reads.Learnt,
-  join-reads.Asked,
-  join-reads.Learnt,
-) (parts-at t) parts.Post parts-Inv-loop parts-μ-loop
-parts-add-weight t c = ?
+  parts-part-value-requires : parts-lts.Need-part-value-requires parts-calls parts-at parts.Post parts-Inv parts-μ
+  parts-part-value-requires c κs =
+      let at = c .before .before .before .before in
+      (omega (arith, parts-begin at .pre .0), prepared-ready (prepared at) _ (omega (arith, c .before .smaller .ensures, parts-begin at .pre .1 .1)))
 
--- src/lib.rt:132:19
-parts-join-requires : (t : ℕ) → parts-lts.Need-join-requires (
-  rounded-up-reads.Asked,
-  rounded-up-reads.Learnt,
-  pth-powers-reads.Asked,
-  pth-powers-reads.Learnt,
-  smaller-reads.Asked,
-  smaller-reads.Learnt,
-  part-value-below t,
-  part-value.Post,
-  move-down-reads.Asked,
-  move-down-reads.Learnt,
-  join-reads.Asked,
-  join-reads.Learnt,
-) (parts-at t) parts.Post parts-Inv-loop parts-μ-loop
-parts-join-requires t c κs = ?
+  parts-move-down-requires : parts-lts.Need-move-down-requires parts-calls parts-at parts.Post parts-Inv parts-μ
+  parts-move-down-requires c κs = search needs
 
--- src/lib.rt:132:9
-parts-add-weight-2 : (t : ℕ) → parts-lts.Need-add-weight-2 (
-  rounded-up-reads.Asked,
-  rounded-up-reads.Learnt,
-  pth-powers-reads.Asked,
-  pth-powers-reads.Learnt,
-  smaller-reads.Asked,
-  smaller-reads.Learnt,
-  part-value-below t,
-  part-value.Post,
-  move-down-reads.Asked,
-  move-down-reads.Learnt,
-  join-reads.Asked,
-  join-reads.Learnt,
-) (parts-at t) parts.Post parts-Inv-loop parts-μ-loop
-parts-add-weight-2 t c = ?
+  -- the top part is joined
+  top-joined : (c : parts-lts.After-slice-known4 parts-calls parts-at parts.Post parts-Inv parts-μ)
+      → (let args = parts-begin (c .before .before .before .before .before .before .before .before .before .before .before) .args in
+      PartsJoined (args .p) (args .n) (args .m) (args .w .now) (c .before .before .before .before .before .before .before .before .smaller .result - 1) (c .before .before .move-down .last .0) (c .before .before .before .before .before .before .part-value .result))
+  top-joined c =
+      parts-first (prepared (c .before .before .before .before .before .before .before .before .before .before .before)) (ap (λ q. q - 1) (c .before .before .before .before .before .before .before .before .smaller .ensures)) (c .before .before .before .before .before .before .part-value .ensures) (c .before .before .move-down .ensures)
 
--- src/lib.rt:129:5
-parts-loop-less : (t : ℕ) → parts-lts.Need-loop-less (
-  rounded-up-reads.Asked,
-  rounded-up-reads.Learnt,
-  pth-powers-reads.Asked,
-  pth-powers-reads.Learnt,
-  smaller-reads.Asked,
-  smaller-reads.Learnt,
-  part-value-below t,
-  part-value.Post,
-  move-down-reads.Asked,
-  move-down-reads.Learnt,
-  join-reads.Asked,
-  join-reads.Learnt,
-) (parts-at t) parts.Post parts-Inv-loop parts-μ-loop
-parts-loop-less t c = ?
+  parts-loop-holds : parts-lts.Need-loop-holds parts-calls parts-at parts.Post parts-Inv parts-μ
+  parts-loop-holds c = parts-rebased (top-joined c)
 
--- src/lib.rt:129:5
-parts-loop-again : (t : ℕ) → parts-lts.Need-loop-again (
-  rounded-up-reads.Asked,
-  rounded-up-reads.Learnt,
-  pth-powers-reads.Asked,
-  pth-powers-reads.Learnt,
-  smaller-reads.Asked,
-  smaller-reads.Learnt,
-  part-value-below t,
-  part-value.Post,
-  move-down-reads.Asked,
-  move-down-reads.Learnt,
-  join-reads.Asked,
-  join-reads.Learnt,
-) (parts-at t) parts.Post parts-Inv-loop parts-μ-loop
-parts-loop-again t c = ?
+  parts-sub-j-2 : parts-lts.Need-sub-j-2 parts-calls parts-at parts.Post parts-Inv parts-μ
+  parts-sub-j-2 c = search needs
 
--- src/lib.rt:118:1
-parts-same-length : (t : ℕ) → parts-lts.Need-same-length (
-  rounded-up-reads.Asked,
-  rounded-up-reads.Learnt,
-  pth-powers-reads.Asked,
-  pth-powers-reads.Learnt,
-  smaller-reads.Asked,
-  smaller-reads.Learnt,
-  part-value-below t,
-  part-value.Post,
-  move-down-reads.Asked,
-  move-down-reads.Learnt,
-  join-reads.Asked,
-  join-reads.Learnt,
-) (parts-at t) parts.Post parts-Inv-loop parts-μ-loop
-parts-same-length t c = ?
+  parts-part-value-requires-2 : parts-lts.Need-part-value-requires-2 parts-calls parts-at parts.Post parts-Inv parts-μ
+  parts-part-value-requires-2 c κs =
+      let inv = c .before .before .loop .inv in
+      (omega (arith, c .before .before .before .before .before .before .before .before .before .before .before .before .before .before .before .before .before .before .pre .0), prepared-ready (inv .prepared) _ (omega (arith, inv .index)))
 
--- src/lib.rt:118:1
-parts-returns : (t : ℕ) → parts-lts.Need-returns (
-  rounded-up-reads.Asked,
-  rounded-up-reads.Learnt,
-  pth-powers-reads.Asked,
-  pth-powers-reads.Learnt,
-  smaller-reads.Asked,
-  smaller-reads.Learnt,
-  part-value-below t,
-  part-value.Post,
-  move-down-reads.Asked,
-  move-down-reads.Learnt,
-  join-reads.Asked,
-  join-reads.Learnt,
-) (parts-at t) parts.Post parts-Inv-loop parts-μ-loop
-parts-returns t c = ?
+  parts-add-weight : parts-lts.Need-add-weight parts-calls parts-at parts.Post parts-Inv parts-μ
+  parts-add-weight c =
+      let at = c .before .before .before .before .before in
+      let down : suc (at .loop .j - 1) ≡ at .loop .j = omega arith in
+      omega (arith, parts-small (at .loop .inv) down, c .before .before .part-value2 .ensures .sum)
+
+  parts-join-requires : parts-lts.Need-join-requires parts-calls parts-at parts.Post parts-Inv parts-μ
+  parts-join-requires c κs =
+      parts-room (c .before .before .before .before .before .before .loop .inv) (c .before .before .before .part-value2 .ensures)
+
+  parts-add-weight-2 : parts-lts.Need-add-weight-2 parts-calls parts-at parts.Post parts-Inv parts-μ
+  parts-add-weight-2 c =
+      let at = c .before .before .before .before .before .before .before .before .before in
+      let down : suc (at .loop .j - 1) ≡ at .loop .j = omega arith in
+      omega (arith, parts-small (at .loop .inv) down, c .before .before .before .before .before .before .part-value2 .ensures .sum, c .before .before .join .ensures .places)
+
+  parts-loop-less : parts-lts.Need-loop-less parts-calls parts-at parts.Post parts-Inv parts-μ
+  parts-loop-less c = search needs
+
+  parts-loop-again : parts-lts.Need-loop-again parts-calls parts-at parts.Post parts-Inv parts-μ
+  parts-loop-again c =
+      let at = c .before .before .before .before .before .before .before .before .before in
+      let down : suc (at .loop .j - 1) ≡ at .loop .j = omega arith in
+      parts-turn (at .loop .inv) down (c .before .before .before .before .before .before .part-value2 .ensures) (c .before .before .join .ensures)
+
+  parts-same-length : parts-lts.Need-same-length parts-calls parts-at parts.Post parts-Inv parts-μ
+  parts-same-length c = search needs
+
+  parts-returns : parts-lts.Need-returns parts-calls parts-at parts.Post parts-Inv parts-μ
+  parts-returns c = level-rebased (top-joined (c .before .before) .prepared) (parts-level (c .before .loop .inv) (omega arith))
 
 pub +level+part-value+parts-spec : {M : Type 1} → statement M
-+level+part-value+parts-spec = close μ-level μ-part-value μ-parts (λ t. level-lts.spec (
-  constant-reads.Asked,
-  constant-reads.Learnt,
-  parts-below t,
-  parts.Post,
-)
-    (level-at t)
-    level.Post
++level+part-value+parts-spec =
+    close μ-level μ-part-value μ-parts
+    (λ t. level-lts.spec (level-calls t) (level-at t) level.Post
     (level-constant-requires t)
     (level-parts-requires t)
     (level-same-length t)
     (level-returns t)
     (level-same-length-2 t)
     (level-returns-2 t))
-    (λ t. part-value-lts.spec (
-      rounded-up-reads.Asked,
-      rounded-up-reads.Learnt,
-      part-reads.Asked,
-      part-reads.Learnt,
-      level-below t,
-      level.Post,
-      spread-reads.Asked,
-      spread-reads.Learnt,
-    )
-    (part-value-at t)
-    part-value.Post
+    (λ t. part-value-lts.spec (part-value-calls t) (part-value-at t) part-value.Post
     (part-value-add-next t)
     (part-value-add-next-2 t)
     (part-value-add-rest t)
@@ -684,24 +318,7 @@ pub +level+part-value+parts-spec : {M : Type 1} → statement M
     (part-value-spread-requires t)
     (part-value-same-length t)
     (part-value-returns t))
-    λ t. parts-lts.spec (
-      rounded-up-reads.Asked,
-      rounded-up-reads.Learnt,
-      pth-powers-reads.Asked,
-      pth-powers-reads.Learnt,
-      smaller-reads.Asked,
-      smaller-reads.Learnt,
-      part-value-below t,
-      part-value.Post,
-      move-down-reads.Asked,
-      move-down-reads.Learnt,
-      join-reads.Asked,
-      join-reads.Learnt,
-    )
-    (parts-at t)
-    parts.Post
-    parts-Inv-loop
-    parts-μ-loop
+    (λ t. parts-lts.spec (parts-calls t) (parts-at t) parts.Post (parts-Inv t) (parts-μ t)
     (parts-add-value t)
     (parts-add-next t)
     (parts-rounded-up-requires t)
@@ -720,4 +337,4 @@ pub +level+part-value+parts-spec : {M : Type 1} → statement M
     (parts-loop-less t)
     (parts-loop-again t)
     (parts-same-length t)
-    (parts-returns t)
+    (parts-returns t))
