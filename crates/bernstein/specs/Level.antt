@@ -9,24 +9,27 @@
 --   PartValue         what `part_value` ensures
 --   Joined            the contract of `join`
 --   level-constant    a level with at most one place of f
+--   level-put         f is put behind the places of g, and then a level done
 -- Assumes nothing.
 use Prim.Native.Nat.{ℕ, _+_, _*_, _<_, _≤_}
 use native.Mathlib.Omega.{arith}
-use mathlib.Core.Path.{_≡_, sym}
+use mathlib.Core.Logic.{inl}
+use mathlib.Core.Path.{_≡_, sym, _∙_}
 use mathlib.Core.List.{List}
 use lib.ListN.{length}
 use lib.Seq.{sets}
-use Rattle.algebra.specs.Lists.{length-tabulate}
+use Rattle.algebra.specs.Lists.{length-tabulate, tabulate-coefficient}
 use Rattle.bernstein.specs.Split.{partValue}
 use Rattle.bernstein.specs.Weights.{weight-low}
 use Rattle.definition.specs.Bernstein.{part, partCount, pthPowers, spreadList}
-use Rattle.definition.specs.Lists.{ceilDiv}
+use Rattle.definition.specs.Lists.{ceilDiv, coefficient, tabulate}
 use Rattle.definition.specs.Prime.{Prime}
 use Rattle.definition.specs.Ranged.{joined}
 use Rattle.definition.specs.Substitution.{composed, composedAt}
 use Rattle.definition.specs.Weight.{bernsteinWeight}
 use Rattle.product.specs.Segments.{segment}
-use Rattle.route.specs.Within.{Within, within-sets, segment-sets}
+use Rattle.route.specs.Table.{written-table}
+use Rattle.route.specs.Within.{Within, within-trans, within-wider, within-sets, segment-within, segment-sets}
 
 abbrev pub nextAt : ℕ → ℕ → ℕ
 nextAt n m = n + m + n
@@ -81,3 +84,14 @@ level-constant {p} {n} {m} {before} room low written =
       value = rw written (segment-sets before (n + m) value n size (omega arith));
       sum = sym (weight-low p n m low);
     }
+
+pub level-put : {p n : ℕ} (f : List ℕ) {v u after : List ℕ} {weight : ℕ} → n + length f ≤ length v
+    → u ≡ sets v n (tabulate (length f) (coefficient f)) → Level p n (length f) u after weight
+    → (Within n (5 * n + 6 * length f) v after) × (segment after (n + length f) n ≡ composed p n f (segment v 0 n))
+level-put {p} {n} f {v} {u} fits put level =
+    let written : Within n (length f) v u =
+    rw put (within-sets v n (tabulate (length f) (coefficient f)) (omega arith) (omega (arith, length-tabulate (length f) (coefficient f)))) in
+    let outer : segment u n (length f) ≡ f = rw put (written-table v n (coefficient f) (length f) fits ∙ tabulate-coefficient f) in (
+      within-trans (within-wider (omega arith) (omega arith) written) (within-wider (omega arith) (omega arith) (level .within)),
+      level .value ∙ rw (outer, segment-within written 0 n (inl (omega arith))),
+    )

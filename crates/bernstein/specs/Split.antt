@@ -6,7 +6,6 @@
 --   joined-top          of the top part nothing is joined
 --   joined-next         the join of one part more
 --   joined-all          with all parts joined this is f(g)
---   composed-constant   an outer list of at most one place
 -- Assumes nothing.
 use Prim.Native.Nat.{ℕ, zero, suc, _+_, _*_, _-_, _^_, _%_, _<_, _≤_, min}
 use native.Mathlib.Decide.{decLt}
@@ -46,9 +45,7 @@ use Rattle.definition.specs.Bernstein.{part, pthPowers, pthPowerAt, spreadList}
 use Rattle.definition.specs.Lists.{tabulate, coefficient, ceilDiv}
 use Rattle.definition.specs.Prime.{Prime}
 use Rattle.definition.specs.Ranged.{joined}
-use Rattle.definition.specs.Substitution.{composed, composedAt, substituted, substitutedTerm}
-use Rattle.definition.specs.Substitution as Plain
-use Rattle.definition.specs.Lists as Plain-lists
+use Rattle.definition.specs.Substitution.{composed, composedAt, substituted}
 
 abbrev pub partValue : ℕ → ℕ → List ℕ → List ℕ → ℕ → List ℕ
 partValue p n f g j = composed p (ceilDiv n p) (part p j f) (pthPowers p (take (ceilDiv n p) g))
@@ -142,15 +139,3 @@ module _ {p : ℕ} (P : Prime p) where
         (ap (listed n)
         (simp (sub-zero, zero-add) (sym
         (bernstein (residues positive) (reduction positive) positive (residues-power-spread positive P) f inner (min p (length f)) (min-le-left p (length f)) (le-refl _)))))
-
-constant-at : (p : ℕ) (f g : List ℕ) → length f ≤ 1 → (k : ℕ) → composedAt p f g k ≡ coefficient ((coefficient f 0 % p) ∷ []) k
-unfolding composedAt substituted substitutedTerm coefficient Plain.power Plain.constant Plain-lists.sum
-constant-at p [] g h zero = refl
-constant-at p [] g h (suc k) = zero-mod p
-constant-at p (c ∷ []) g h zero = rw (mul-one, zero-add)
-constant-at p (c ∷ []) g h (suc k) = rw (mul-zero, zero-add, zero-mod)
-constant-at p (c ∷ d ∷ f) g h k = absurd (omega arith)
-
-pub composed-constant : (p n : ℕ) (f g : List ℕ) → length f ≤ 1 → composed p n f g ≡ tabulate n (coefficient ((coefficient f 0 % p) ∷ []))
-unfolding composed
-composed-constant p n f g h = tabulate-cong n _ _ (λ k b. constant-at p f g h k)

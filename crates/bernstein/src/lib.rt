@@ -83,8 +83,8 @@ fn constant(p: u32, n: usize, m: usize, w: &mut [u32])
     ensures { λ _. ⌜ now (w .exit) ≡ sets (now (w .entry)) (n + m) (composed p n (segment (now (w .entry)) n m) (segment (now (w .entry)) 0 n)) ⌝ }
 {
     let end = n + m;
-    let value = [route::place(&w[n..end], 0) % p];
-    route::put(&value, n, w, end);
+    let c = route::place(&w[n..end], 0);
+    route::put_constant(c % p, n, w, end);
 }
 
 // Joins the next part's value to the value: it becomes the next one + the value × g, cut to n places.
@@ -149,14 +149,15 @@ fn level(p: u32, n: usize, m: usize, w: &mut [u32]) -> u64
 
 // f(g) modulo x^n and p by route 3, for a prime p.
 pub fn bernstein(p: u32, n: usize, f: &[u32], g: &[u32], out: &mut [u32], w: &mut [u32]) -> u64
-    requires { ⌜ Lent p n (now f) (now out) (now w) × Prime p ⌝ }
+    requires { ⌜ Lent p n (length (now f)) (length (now out)) (length (now w)) × Prime p ⌝ }
     ensures { λ r. ⌜ Route p n (now (f .entry)) (now (g .entry)) (bernsteinWeight p n (length (now (f .entry)))) (now (out .exit))
         (now (w .entry)) (now (w .exit)) r ⌝ }
 {
     let m = f.len();
+    let places = route::work_places(n, m);
     route::put(g, n, w, 0);
     route::put(f, m, w, n);
     let weight = level(p, n, m, w);
-    route::finish(w, n + m, out, route::work_places(n, m));
+    route::finish(w, n + m, out, places);
     weight
 }

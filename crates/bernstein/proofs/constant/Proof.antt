@@ -1,12 +1,12 @@
 -- `bernstein::constant` meets its contract. Assumes nothing.
 use borrow.Author.Needs.{needs}
 use native.Mathlib.Nat.{add-sub-cancel-left}
-use Rattle.product.specs.Segments.{segment, length-segment}
-use Rattle.bernstein.specs.Split.{composed-constant}
 use native.Mathlib.Omega.{arith}
-use Prim.Native.Nat.{ℕ, _+_, _*_, _-_, _<_, _≤_, _%_}
-use lib.ListN.{length, getD, take, drop, set}
-use mathlib.Core.Path.{_≡_, refl, sym, ap, _∙_}
+use Prim.Native.Nat.{_≤_}
+use lib.ListN.{length}
+use mathlib.Core.Path.{_∙_}
+use Rattle.algebra.specs.Composition.{composed-constant}
+use Rattle.product.specs.Segments.{segment, length-segment}
 use Rattle.bernstein.proofs.constant.Statement.{statement}
 use Rattle.bernstein.proofs.constant.Tie as tie
 
@@ -28,24 +28,22 @@ part-place-end c = search needs
 place-requires : tie.Need-place-requires
 place-requires c κs = search needs
 
-rem-t13 : tie.Need-rem-t13
-rem-t13 c = search needs
+rem-put-constant : tie.Need-rem-put-constant
+rem-put-constant c = search needs
 
-slice-aggregate-put : tie.Need-slice-aggregate-put
-slice-aggregate-put c = search needs
-
-put-requires : tie.Need-put-requires
-put-requires c κs = search needs
+put-constant-requires : tie.Need-put-constant-requires
+put-constant-requires c κs = search needs
 
 same-length : tie.Need-same-length
 same-length c = search needs
 
 returns : tie.Need-returns
 returns c =
-    let start = c .before .before .before .before .before .before .before .before .before in
+    let start = c .before .before .before .before .before .before .before .before in
     let f = segment (start .args .w .now) (start .args .n) (start .args .m) in
     let short : length f ≤ 1 = omega (arith, length-segment (start .args .w .now) (start .args .n) (start .args .m)) in
-    c .before .before .put .ensures ∙ rw (composed-constant (start .args .p) (start .args .n) f _ short, ← add-sub-cancel-left (start .args .n) (start .args .m), ← c .before .before .before .before .before .place .ensures)
+    c .before .before .put-constant .ensures
+    ∙ rw (← composed-constant (start .args .p) (start .args .n) f _ short, ← add-sub-cancel-left (start .args .n) (start .args .m), ← c .before .before .before .before .place .ensures)
 
 pub constant-spec : {M : Type 1} → statement M
 constant-spec =
@@ -57,8 +55,7 @@ constant-spec =
     part-place-start
     part-place-end
     place-requires
-    rem-t13
-    slice-aggregate-put
-    put-requires
+    rem-put-constant
+    put-constant-requires
     same-length
     returns)
