@@ -5,6 +5,7 @@
 --   Room              what a level requires
 --   Level             what a level ensures
 --   Parted            the contract of `part`
+--   Prepared          the contract of `prepare`: h stands at the beginning of the rest, and g and f are as they were
 --   PartReady         what `part_value` requires: h stands at the beginning of the rest
 --   PartValue         what `part_value` ensures
 --   Joined            the contract of `join`
@@ -52,6 +53,12 @@ pub record Level (p n m : ℕ) (before after : List ℕ) (result : ℕ) : Type 0
 pub record Parted (p j a m t : ℕ) (before after : List ℕ) (result : ℕ) : Type 0 where
   pub written : after ≡ sets before t (part p j (segment before a m))
   pub count : result ≡ partCount p j m
+
+pub record Prepared (p n m : ℕ) (before now : List ℕ) : Type 0 where
+  pub room : Room p n m before
+  pub several : 1 < m
+  pub within : Within (n + m) (5 * (n + m)) before now
+  pub powers : segment now (restAt n m) (ceilDiv n p) ≡ pthPowers p (segment before 0 (ceilDiv n p))
 
 pub record PartReady (p n m j : ℕ) (w : List ℕ) : Type 0 where
   pub room : Room p n m w

@@ -1,9 +1,8 @@
 -- The parts from the top one down, on the lists that the work buffer holds: what holds when part j is joined and those below it are not.
 --
 --   remaining p n m j   the weight that is still to come: a product for each part below j, and their own weights
---   Prepared            h stands at the beginning of the rest
---   room-powers         where it is written
---   prepared-first      after it was written
+--   room-powers         where h is written
+--   prepared-first      h stands at the beginning of the rest, after it was written
 --   prepared-ready      the value of a part can be computed
 --   PartsJoined         what holds when part j is joined, of the list at the beginning, the list now and the weight so far
 --   parts-first         after the top part
@@ -24,7 +23,7 @@ use lib.Seq.{sets}
 use Rattle.algebra.specs.Lists.{length-tabulate}
 use Rattle.bernstein.specs.Counts.{ceilDiv-half}
 use Rattle.bernstein.specs.Join.{room-length, moved-within, moved-value}
-use Rattle.bernstein.specs.Level.{Joined, Level, PartReady, PartValue, Room, nextAt, restAt}
+use Rattle.bernstein.specs.Level.{Joined, Level, PartReady, PartValue, Prepared, Room, nextAt, restAt}
 use Rattle.bernstein.specs.Split.{partValue, joinedFrom, joined-top, joined-next, joined-all}
 use Rattle.bernstein.specs.Weights.{weightOfPart, weight-parts, weight-small}
 use Rattle.buffer.specs.Written.{length-part}
@@ -49,13 +48,6 @@ sum-last f e = rw (← e)
 remaining-none : (p n m : ℕ) → remaining p n m 0 ≡ 0
 unfolding sum
 remaining-none p n m = omega arith
-
--- h stands at the beginning of the rest, and g and f are as they were
-pub record Prepared (p n m : ℕ) (before now : List ℕ) : Type 0 where
-  pub room : Room p n m before
-  pub several : 1 < m
-  pub within : Within (n + m) (5 * (n + m)) before now
-  pub powers : segment now (restAt n m) (ceilDiv n p) ≡ pthPowers p (segment before 0 (ceilDiv n p))
 
 module _ {p n m order : ℕ} {before : List ℕ} (room : Room p n m before) (rounded : order ≡ ceilDiv n p) where
   half-order : 2 * order ≤ n + 1

@@ -62,9 +62,9 @@ module _ {p : ℕ} (P : Prime p) where
   coefficient-powers g k =
       rw (pthPowers-reduced g)
       (elim (decLt k (length g)) [
-        yes b ↦ coefficient-tabulate (length g) (λ i. coefficient g i % p) k b
-      | no b ↦ tabulate-beyond (length g) (λ i. coefficient g i % p) k (omega arith)
-          ∙ rw (coefficient-beyond g k (omega arith), zero-mod)
+        | yes b ↦ coefficient-tabulate (length g) (λ i. coefficient g i % p) k b
+        | no b ↦ tabulate-beyond (length g) (λ i. coefficient g i % p) k (omega arith)
+            ∙ rw (coefficient-beyond g k (omega arith), zero-mod)
       ])
 
   -- over the residues h is g, below ⌈n/p⌉
@@ -77,8 +77,8 @@ module _ {p : ℕ} (P : Prime p) where
   unfolding composed composedAt
   composed-below n f g k =
       elim (decLt k n) [
-        yes b ↦ rw (coefficient-tabulate n (composedAt p f g) k b) (mod-lt (substituted f g k) positive)
-      | no b ↦ rw (tabulate-beyond n (composedAt p f g) k (omega arith)) positive
+        | yes b ↦ rw (coefficient-tabulate n (composedAt p f g) k b) (mod-lt (substituted f g k) positive)
+        | no b ↦ rw (tabulate-beyond n (composedAt p f g) k (omega arith)) positive
       ]
 
   open Semiring (residue-series positive) using (_⊕_ as _⊞_, _⊗_ as _⊠_)

@@ -3,7 +3,7 @@
 // A level works on the places of its slice: g at 0, f at n, the value at n + m, the next part's value at 2n + m. The rest, from 3n + m on, is lent to
 // the next level, which finds h and a part of f there.
 ghost use mathlib.Core.Path.{_≡_};
-ghost use Prim.Native.Nat.{_+_, _<_, _≤_, _^_, min};
+ghost use Prim.Native.Nat.{_+_, _-_, _<_, _≤_, _^_, min};
 ghost use lib.ListN.{length};
 ghost use lib.Seq.{sets};
 ghost use Rattle.definition.specs.Bernstein.{pthPowers, spread, spreadList};
@@ -13,7 +13,7 @@ ghost use Rattle.definition.specs.Substitution.{composed};
 ghost use Rattle.definition.specs.Weight.{bernsteinWeight};
 ghost use Rattle.product.specs.Segments.{segment, Apart};
 ghost use Rattle.route.specs.Contract.{Lent, Route};
-ghost use Rattle.bernstein.specs.Level.{Joined, Level, PartReady, PartValue, Parted, Room};
+ghost use Rattle.bernstein.specs.Level.{Joined, Level, PartReady, PartValue, Parted, Prepared, Room};
 
 // a / b, rounded up.
 fn rounded_up(a: usize, b: usize) -> usize
@@ -23,11 +23,13 @@ fn rounded_up(a: usize, b: usize) -> usize
     (a + (b - 1)) / b
 }
 
-// The smaller of two numbers.
-fn smaller(a: usize, b: usize) -> usize
-    ensures { λ r. ⌜ r ≡ min a b ⌝ }
+// The number of the top part of m places.
+fn top_part(p: u32, m: usize) -> usize
+    requires { ⌜ (0 < p) × (0 < m) ⌝ }
+    ensures { λ r. ⌜ r ≡ min p m - 1 ⌝ }
 {
-    if a < b { a } else { b }
+    let most = p as usize;
+    if most < m { most - 1 } else { m - 1 }
 }
 
 // Writes part j of the m places from a on, from place t on. Gives the count of its places.
@@ -61,7 +63,11 @@ fn spread_coefficient(p: usize, l: &[u32], k: usize) -> u32
     requires { ⌜ 0 < p ⌝ }
     ensures { λ r. ⌜ r ≡ spread p (coefficient (now (l .entry))) k ⌝ }
 {
-    if k % p == 0 { route::place(l, k / p) } else { 0 }
+    if k % p == 0 {
+        route::place(l, k / p)
+    } else {
+        0
+    }
 }
 
 // Writes the k places from a on, with x^p put for y and cut to n places, from place t on.
@@ -85,6 +91,15 @@ fn constant(p: u32, n: usize, m: usize, w: &mut [u32])
     let end = n + m;
     let c = route::place(&w[n..end], 0);
     route::put_constant(c % p, n, w, end);
+}
+
+// Writes h at the beginning of the rest.
+fn prepare(p: u32, n: usize, m: usize, w: &mut [u32])
+    requires { ⌜ Room p n m (now w) × (1 < m) ⌝ }
+    ensures { λ _. ⌜ Prepared p n m (now (w .entry)) (now (w .exit)) ⌝ }
+{
+    let order = rounded_up(n, p as usize);
+    pth_powers(p, w, 0, order, n + m + n + n);
 }
 
 // Joins the next part's value to the value: it becomes the next one + the value × g, cut to n places.
@@ -120,12 +135,10 @@ fn parts(p: u32, n: usize, m: usize, w: &mut [u32]) -> u64
     ensures { λ r. ⌜ Level p n m (now (w .entry)) (now (w .exit)) r ⌝ }
 {
     let value = n + m;
-    let next = value + n;
-    let step = p as usize;
-    pth_powers(p, w, 0, rounded_up(n, step), next + n);
-    let mut j = smaller(step, m) - 1;
+    prepare(p, n, m, w);
+    let mut j = top_part(p, m);
     let mut weight = part_value(p, n, m, j, w);
-    buffer::move_down(w, next, value, n);
+    buffer::move_down(w, value + n, value, n);
     while 0 < j {
         j -= 1;
         weight += part_value(p, n, m, j, w);

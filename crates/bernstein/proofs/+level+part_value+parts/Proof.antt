@@ -1,15 +1,11 @@
--- The proof of the cycle of calls {level, part_value, parts}. The count of the outer list falls from a level to the next; within a level `level` calls
--- `parts`, and `parts` calls `part_value`. Assumes nothing.
-use Prim.Native.Nat.{ℕ, suc, _+_, _*_, _-_, _<_}
+-- The proof of the cycle of calls {level, part_value, parts}. Assumes nothing.
+use Prim.Native.Nat.{ℕ, suc, _-_}
 use borrow.Author.Needs.{needs}
 use native.Mathlib.Omega.{arith}
-use mathlib.Core.Path.{_≡_, refl, sym, ap, _∙_}
-use lib.ListN.{drop}
-use lib.Seq.{sets}
+use mathlib.Core.Path.{_≡_}
 use Rattle.bernstein.specs.Level.{level-constant}
 use Rattle.bernstein.specs.Loop.{
   PartsJoined,
-  Prepared,
   level-rebased,
   parts-first,
   parts-level,
@@ -17,66 +13,41 @@ use Rattle.bernstein.specs.Loop.{
   parts-room,
   parts-small,
   parts-turn,
-  prepared-first,
   prepared-ready,
-  room-powers,
 }
 use Rattle.bernstein.specs.Rest.{fewer, rest-fits, part-value-written, room-part, room-rest, room-spread}
-use Rattle.definition.specs.Bernstein.{part, partCount}
-use Rattle.definition.specs.Lists.{ceilDiv}
-use Rattle.product.specs.Segments.{segment}
-use borrow.Fn.Kinds.{In}
-use borrow.Fn.PlainCycle.{Measures, is, falls, and}
+use Rattle.bernstein.proofs.Cycle.{
+  μ-level,
+  μ-part-value,
+  μ-parts,
+  level-at,
+  level-below,
+  part-value-at,
+  part-value-below,
+  parts-at,
+  parts-below,
+}
 use Rattle.bernstein.proofs.level.Reads as level
-use Rattle.bernstein.proofs.level.Kinds as level-kinds
 use Rattle.bernstein.proofs.+level+part_value+parts.Lts-level as level-lts
 use Rattle.bernstein.proofs.part_value.Reads as part-value
-use Rattle.bernstein.proofs.part_value.Kinds as part-value-kinds
 use Rattle.bernstein.proofs.+level+part_value+parts.Lts-part_value as part-value-lts
 use Rattle.bernstein.proofs.parts.Reads as parts
-use Rattle.bernstein.proofs.parts.Kinds as parts-kinds
 use Rattle.bernstein.proofs.+level+part_value+parts.Lts-parts as parts-lts
 use Rattle.bernstein.proofs.constant.Reads as constant-reads
 use Rattle.bernstein.proofs.join.Reads as join-reads
 use Rattle.bernstein.proofs.part.Reads as part-reads
-use Rattle.bernstein.proofs.pth_powers.Reads as pth-powers-reads
+use Rattle.bernstein.proofs.prepare.Reads as prepare-reads
 use Rattle.bernstein.proofs.rounded_up.Reads as rounded-up-reads
-use Rattle.bernstein.proofs.smaller.Reads as smaller-reads
 use Rattle.bernstein.proofs.spread.Reads as spread-reads
+use Rattle.bernstein.proofs.top_part.Reads as top-part-reads
 use Rattle.buffer.proofs.move_down.Reads as move-down-reads
 use Rattle.bernstein.proofs.+level+part_value+parts.{statement}
 use Rattle.bernstein.proofs.+level+part_value+parts.Tie.{close}
 
-abbrev μ-level : Measures 1 level-kinds.ps ℕ
-μ-level κs a = 3 * a .1 .1 .0 + 2
-
-abbrev μ-part-value : Measures 1 part-value-kinds.ps ℕ
-μ-part-value κs a = 3 * a .1 .1 .0
-
-abbrev μ-parts : Measures 1 parts-kinds.ps ℕ
-μ-parts κs a = 3 * a .1 .1 .0 + 1
-
 module _ (t : ℕ) where
-  abbrev level-at : In 1 level-kinds.ps
-  level-at = and 1 level-kinds.ps (is 1 level-kinds.ps μ-level t) level.Pre
-
-  abbrev level-below : In 1 level-kinds.ps
-  level-below = and 1 level-kinds.ps (falls 1 level-kinds.ps _<_ μ-level t) level.Pre
-
-  abbrev part-value-at : In 1 part-value-kinds.ps
-  part-value-at = and 1 part-value-kinds.ps (is 1 part-value-kinds.ps μ-part-value t) part-value.Pre
-
-  abbrev part-value-below : In 1 part-value-kinds.ps
-  part-value-below = and 1 part-value-kinds.ps (falls 1 part-value-kinds.ps _<_ μ-part-value t) part-value.Pre
-
-  abbrev parts-at : In 1 parts-kinds.ps
-  parts-at = and 1 parts-kinds.ps (is 1 parts-kinds.ps μ-parts t) parts.Pre
-
-  abbrev parts-below : In 1 parts-kinds.ps
-  parts-below = and 1 parts-kinds.ps (falls 1 parts-kinds.ps _<_ μ-parts t) parts.Pre
-
+  -- what a member asks of those that it calls, and learns from them
   abbrev level-calls : level-lts.Claims
-  level-calls = (constant-reads.Asked, constant-reads.Learnt, parts-below, parts.Post)
+  level-calls = (constant-reads.Asked, constant-reads.Learnt, parts-below t, parts.Post)
 
   abbrev part-value-calls : part-value-lts.Claims
   part-value-calls = (
@@ -84,7 +55,7 @@ module _ (t : ℕ) where
     rounded-up-reads.Learnt,
     part-reads.Asked,
     part-reads.Learnt,
-    level-below,
+    level-below t,
     level.Post,
     spread-reads.Asked,
     spread-reads.Learnt,
@@ -92,13 +63,11 @@ module _ (t : ℕ) where
 
   abbrev parts-calls : parts-lts.Claims
   parts-calls = (
-    rounded-up-reads.Asked,
-    rounded-up-reads.Learnt,
-    pth-powers-reads.Asked,
-    pth-powers-reads.Learnt,
-    smaller-reads.Asked,
-    smaller-reads.Learnt,
-    part-value-below,
+    prepare-reads.Asked,
+    prepare-reads.Learnt,
+    top-part-reads.Asked,
+    top-part-reads.Learnt,
+    part-value-below t,
     part-value.Post,
     move-down-reads.Asked,
     move-down-reads.Learnt,
@@ -106,40 +75,40 @@ module _ (t : ℕ) where
     join-reads.Learnt,
   )
 
-  level-constant-requires : level-lts.Need-constant-requires level-calls level-at level.Post
+  level-constant-requires : level-lts.Need-constant-requires level-calls (level-at t) level.Post
   level-constant-requires c κs = search needs
 
-  level-parts-requires : level-lts.Need-parts-requires level-calls level-at level.Post
+  level-parts-requires : level-lts.Need-parts-requires level-calls (level-at t) level.Post
   level-parts-requires c κs = search needs
 
-  level-same-length : level-lts.Need-same-length level-calls level-at level.Post
+  level-same-length : level-lts.Need-same-length level-calls (level-at t) level.Post
   level-same-length c = search needs
 
-  level-returns : level-lts.Need-returns level-calls level-at level.Post
+  level-returns : level-lts.Need-returns level-calls (level-at t) level.Post
   level-returns c = level-constant (c .before .before .before .before .before .before .pre .1) (c .before .before .before .before .if1 .taken) (c .before .before .constant .ensures)
 
-  level-same-length-2 : level-lts.Need-same-length-2 level-calls level-at level.Post
+  level-same-length-2 : level-lts.Need-same-length-2 level-calls (level-at t) level.Post
   level-same-length-2 c = search needs
 
-  level-returns-2 : level-lts.Need-returns-2 level-calls level-at level.Post
+  level-returns-2 : level-lts.Need-returns-2 level-calls (level-at t) level.Post
   level-returns-2 c = search needs
 
-  part-value-add-next : part-value-lts.Need-add-next part-value-calls part-value-at part-value.Post
+  part-value-add-next : part-value-lts.Need-add-next part-value-calls (part-value-at t) part-value.Post
   part-value-add-next c = search needs
 
-  part-value-add-next-2 : part-value-lts.Need-add-next-2 part-value-calls part-value-at part-value.Post
+  part-value-add-next-2 : part-value-lts.Need-add-next-2 part-value-calls (part-value-at t) part-value.Post
   part-value-add-next-2 c = search needs
 
-  part-value-add-rest : part-value-lts.Need-add-rest part-value-calls part-value-at part-value.Post
+  part-value-add-rest : part-value-lts.Need-add-rest part-value-calls (part-value-at t) part-value.Post
   part-value-add-rest c = search needs
 
-  part-value-rounded-up-requires : part-value-lts.Need-rounded-up-requires part-value-calls part-value-at part-value.Post
+  part-value-rounded-up-requires : part-value-lts.Need-rounded-up-requires part-value-calls (part-value-at t) part-value.Post
   part-value-rounded-up-requires c κs = search needs
 
-  part-value-add-part : part-value-lts.Need-add-part part-value-calls part-value-at part-value.Post
+  part-value-add-part : part-value-lts.Need-add-part part-value-calls (part-value-at t) part-value.Post
   part-value-add-part c = omega (arith, room-part (c .before .before .before .pre .1) (c .before .rounded-up .ensures) .target)
 
-  part-value-part-requires : part-value-lts.Need-part-requires part-value-calls part-value-at part-value.Post
+  part-value-part-requires : part-value-lts.Need-part-requires part-value-calls (part-value-at t) part-value.Post
   part-value-part-requires c κs = (
     search needs,
     search needs,
@@ -147,50 +116,50 @@ module _ (t : ℕ) where
     room-part (c .before .before .before .pre .1) (c .before .rounded-up .ensures),
   )
 
-  part-value-mul-level : part-value-lts.Need-mul-level part-value-calls part-value-at part-value.Post
+  part-value-mul-level : part-value-lts.Need-mul-level part-value-calls (part-value-at t) part-value.Post
   part-value-mul-level c = search needs
 
-  part-value-sub-level : part-value-lts.Need-sub-level part-value-calls part-value-at part-value.Post
+  part-value-sub-level : part-value-lts.Need-sub-level part-value-calls (part-value-at t) part-value.Post
   part-value-sub-level c = search needs
 
-  part-value-part-level-start : part-value-lts.Need-part-level-start part-value-calls part-value-at part-value.Post
+  part-value-part-level-start : part-value-lts.Need-part-level-start part-value-calls (part-value-at t) part-value.Post
   part-value-part-level-start c = search needs
 
-  part-value-part-level-end : part-value-lts.Need-part-level-end part-value-calls part-value-at part-value.Post
+  part-value-part-level-end : part-value-lts.Need-part-level-end part-value-calls (part-value-at t) part-value.Post
   part-value-part-level-end c = search needs
 
-  part-value-level-requires : part-value-lts.Need-level-requires part-value-calls part-value-at part-value.Post
+  part-value-level-requires : part-value-lts.Need-level-requires part-value-calls (part-value-at t) part-value.Post
   part-value-level-requires c κs =
       let at = c .before .before .before in
       let start = at .before .before .before .before in
       let rounded = at .before .before .rounded-up .ensures in
       (omega (arith, fewer (start .pre .1) rounded (at .part .ensures), start .pre .0), room-rest (start .pre .1) rounded (at .part .ensures))
 
-  part-value-add-spread : part-value-lts.Need-add-spread part-value-calls part-value-at part-value.Post
+  part-value-add-spread : part-value-lts.Need-add-spread part-value-calls (part-value-at t) part-value.Post
   part-value-add-spread c =
       let at = c .before .before .before .before .before .before .before in
       let start = at .before .before .before .before in
       let rounded = at .before .before .rounded-up .ensures in
       omega (arith, rest-fits (start .pre .1) rounded (at .part .ensures))
 
-  part-value-add-spread-2 : part-value-lts.Need-add-spread-2 part-value-calls part-value-at part-value.Post
+  part-value-add-spread-2 : part-value-lts.Need-add-spread-2 part-value-calls (part-value-at t) part-value.Post
   part-value-add-spread-2 c =
       let at = c .before .before .before .before .before .before .before in
       let start = at .before .before .before .before in
       let rounded = at .before .before .rounded-up .ensures in
       omega (arith, rest-fits (start .pre .1) rounded (at .part .ensures))
 
-  part-value-spread-requires : part-value-lts.Need-spread-requires part-value-calls part-value-at part-value.Post
+  part-value-spread-requires : part-value-lts.Need-spread-requires part-value-calls (part-value-at t) part-value.Post
   part-value-spread-requires c κs =
       let at = c .before .before .before .before .before .before .before in
       let start = at .before .before .before .before in
       let rounded = at .before .before .rounded-up .ensures in
       (search needs, room-spread (start .pre .1) rounded (at .part .ensures) (c .before .before .before .level .ensures))
 
-  part-value-same-length : part-value-lts.Need-same-length part-value-calls part-value-at part-value.Post
+  part-value-same-length : part-value-lts.Need-same-length part-value-calls (part-value-at t) part-value.Post
   part-value-same-length c = search needs
 
-  part-value-returns : part-value-lts.Need-returns part-value-calls part-value-at part-value.Post
+  part-value-returns : part-value-lts.Need-returns part-value-calls (part-value-at t) part-value.Post
   part-value-returns c =
       let at = c .before .before .before .before .before .before .before .before .before .before in
       let start = at .before .before .before .before in
@@ -198,97 +167,82 @@ module _ (t : ℕ) where
       part-value-written (start .pre .1) rounded (at .part .ensures) (c .before .before .before .before .before .before .level .ensures) (c .before .before .spread .ensures)
 
   abbrev parts-Inv : parts-lts.InvT-loop
-  parts-Inv p n m w₀ value next step j₀ weight₀ w j weight = PartsJoined p n m w₀ j w weight
+  parts-Inv p n m w₀ value j₀ weight₀ w j weight = PartsJoined p n m w₀ j w weight
 
   abbrev parts-μ : parts-lts.MeasureT-loop
-  parts-μ p n m w₀ value next step j₀ weight₀ w j weight = j
+  parts-μ p n m w₀ value j₀ weight₀ w j weight = j
 
-  parts-add-value : parts-lts.Need-add-value parts-calls parts-at parts.Post parts-Inv parts-μ
+  parts-add-value : parts-lts.Need-add-value parts-calls (parts-at t) parts.Post parts-Inv parts-μ
   parts-add-value c = search needs
 
-  parts-add-next : parts-lts.Need-add-next parts-calls parts-at parts.Post parts-Inv parts-μ
-  parts-add-next c = search needs
+  parts-prepare-requires : parts-lts.Need-prepare-requires parts-calls (parts-at t) parts.Post parts-Inv parts-μ
+  parts-prepare-requires c κs = search needs
 
-  parts-rounded-up-requires : parts-lts.Need-rounded-up-requires parts-calls parts-at parts.Post parts-Inv parts-μ
-  parts-rounded-up-requires c κs = search needs
+  parts-top-part-requires : parts-lts.Need-top-part-requires parts-calls (parts-at t) parts.Post parts-Inv parts-μ
+  parts-top-part-requires c κs = search needs
 
-  parts-add-pth-powers : parts-lts.Need-add-pth-powers parts-calls parts-at parts.Post parts-Inv parts-μ
-  parts-add-pth-powers c = search needs
-
-  parts-pth-powers-requires : parts-lts.Need-pth-powers-requires parts-calls parts-at parts.Post parts-Inv parts-μ
-  parts-pth-powers-requires c κs =
-      let start = c .before .before .before in
-      (start .pre .1 .0 .prime, room-powers (start .pre .1 .0) (c .rounded-up .ensures))
-
-  -- h is written
-  abbrev parts-begin : parts-lts.After-pth-powers parts-calls parts-at parts.Post parts-Inv parts-μ → parts-lts.Start parts-calls parts-at parts.Post parts-Inv parts-μ
-  parts-begin c = c .before .before .before .before
-
-  prepared : (c : parts-lts.After-pth-powers parts-calls parts-at parts.Post parts-Inv parts-μ)
-      → (let args = parts-begin c .args in Prepared (args .p) (args .n) (args .m) (args .w .now) (c .pth-powers .last .1 .0))
-  prepared c = prepared-first (parts-begin c .pre .1 .0) (c .before .rounded-up .ensures) (parts-begin c .pre .1 .1) (c .pth-powers .ensures)
-
-  parts-smaller-requires : parts-lts.Need-smaller-requires parts-calls parts-at parts.Post parts-Inv parts-μ
-  parts-smaller-requires c κs = search needs
-
-  parts-sub-j : parts-lts.Need-sub-j parts-calls parts-at parts.Post parts-Inv parts-μ
-  parts-sub-j c = search needs
-
-  parts-part-value-requires : parts-lts.Need-part-value-requires parts-calls parts-at parts.Post parts-Inv parts-μ
+  parts-part-value-requires : parts-lts.Need-part-value-requires parts-calls (parts-at t) parts.Post parts-Inv parts-μ
   parts-part-value-requires c κs =
-      let at = c .before .before .before .before in
-      (omega (arith, parts-begin at .pre .0), prepared-ready (prepared at) _ (omega (arith, c .before .smaller .ensures, parts-begin at .pre .1 .1)))
+      let start = c .before .before .before .before .before .before .before in
+      (
+        omega (arith, start .pre .0),
+        prepared-ready (c .before .before .before .before .prepare .ensures) _ (omega (arith, c .before .top-part .ensures, start .pre .1 .1)),
+      )
 
-  parts-move-down-requires : parts-lts.Need-move-down-requires parts-calls parts-at parts.Post parts-Inv parts-μ
+  parts-add-move-down : parts-lts.Need-add-move-down parts-calls (parts-at t) parts.Post parts-Inv parts-μ
+  parts-add-move-down c = search needs
+
+  parts-move-down-requires : parts-lts.Need-move-down-requires parts-calls (parts-at t) parts.Post parts-Inv parts-μ
   parts-move-down-requires c κs = search needs
 
   -- the top part is joined
-  top-joined : (c : parts-lts.After-slice-known4 parts-calls parts-at parts.Post parts-Inv parts-μ)
-      → (let args = parts-begin (c .before .before .before .before .before .before .before .before .before .before .before) .args in
-      PartsJoined (args .p) (args .n) (args .m) (args .w .now) (c .before .before .before .before .before .before .before .before .smaller .result - 1) (c .before .before .move-down .last .0) (c .before .before .before .before .before .before .part-value .result))
+  top-joined : (c : parts-lts.After-slice-known4 parts-calls (parts-at t) parts.Post parts-Inv parts-μ)
+      → (let args = c .before .before .before .before .before .before .before .before .before .before .before .before .before .before .args in
+      PartsJoined (args .p) (args .n) (args .m) (args .w .now)
+      (c .before .before .before .before .before .before .before .before .top-part .result) (c .before .before .move-down .last .0) (c .before .before .before .before .before .before .part-value .result))
   top-joined c =
-      parts-first (prepared (c .before .before .before .before .before .before .before .before .before .before .before)) (ap (λ q. q - 1) (c .before .before .before .before .before .before .before .before .smaller .ensures)) (c .before .before .before .before .before .before .part-value .ensures) (c .before .before .move-down .ensures)
+      parts-first (c .before .before .before .before .before .before .before .before .before .before .before .prepare .ensures) (c .before .before .before .before .before .before .before .before .top-part .ensures)
+      (c .before .before .before .before .before .before .part-value .ensures) (c .before .before .move-down .ensures)
 
-  parts-loop-holds : parts-lts.Need-loop-holds parts-calls parts-at parts.Post parts-Inv parts-μ
+  parts-loop-holds : parts-lts.Need-loop-holds parts-calls (parts-at t) parts.Post parts-Inv parts-μ
   parts-loop-holds c = parts-rebased (top-joined c)
 
-  parts-sub-j-2 : parts-lts.Need-sub-j-2 parts-calls parts-at parts.Post parts-Inv parts-μ
-  parts-sub-j-2 c = search needs
+  parts-sub-j : parts-lts.Need-sub-j parts-calls (parts-at t) parts.Post parts-Inv parts-μ
+  parts-sub-j c = search needs
 
-  parts-part-value-requires-2 : parts-lts.Need-part-value-requires-2 parts-calls parts-at parts.Post parts-Inv parts-μ
+  parts-part-value-requires-2 : parts-lts.Need-part-value-requires-2 parts-calls (parts-at t) parts.Post parts-Inv parts-μ
   parts-part-value-requires-2 c κs =
       let inv = c .before .before .loop .inv in
-      (omega (arith, c .before .before .before .before .before .before .before .before .before .before .before .before .before .before .before .before .before .before .pre .0), prepared-ready (inv .prepared) _ (omega (arith, inv .index)))
+      (omega (arith, c .before .before .before .before .before .before .before .before .before .before .before .before .before .before .before .before .before .pre .0), prepared-ready (inv .prepared) _ (omega (arith, inv .index)))
 
-  parts-add-weight : parts-lts.Need-add-weight parts-calls parts-at parts.Post parts-Inv parts-μ
+  parts-add-weight : parts-lts.Need-add-weight parts-calls (parts-at t) parts.Post parts-Inv parts-μ
   parts-add-weight c =
       let at = c .before .before .before .before .before in
       let down : suc (at .loop .j - 1) ≡ at .loop .j = omega arith in
       omega (arith, parts-small (at .loop .inv) down, c .before .before .part-value2 .ensures .sum)
 
-  parts-join-requires : parts-lts.Need-join-requires parts-calls parts-at parts.Post parts-Inv parts-μ
-  parts-join-requires c κs =
-      parts-room (c .before .before .before .before .before .before .loop .inv) (c .before .before .before .part-value2 .ensures)
+  parts-join-requires : parts-lts.Need-join-requires parts-calls (parts-at t) parts.Post parts-Inv parts-μ
+  parts-join-requires c κs = parts-room (c .before .before .before .before .before .before .loop .inv) (c .before .before .before .part-value2 .ensures)
 
-  parts-add-weight-2 : parts-lts.Need-add-weight-2 parts-calls parts-at parts.Post parts-Inv parts-μ
+  parts-add-weight-2 : parts-lts.Need-add-weight-2 parts-calls (parts-at t) parts.Post parts-Inv parts-μ
   parts-add-weight-2 c =
       let at = c .before .before .before .before .before .before .before .before .before in
       let down : suc (at .loop .j - 1) ≡ at .loop .j = omega arith in
       omega (arith, parts-small (at .loop .inv) down, c .before .before .before .before .before .before .part-value2 .ensures .sum, c .before .before .join .ensures .places)
 
-  parts-loop-less : parts-lts.Need-loop-less parts-calls parts-at parts.Post parts-Inv parts-μ
+  parts-loop-less : parts-lts.Need-loop-less parts-calls (parts-at t) parts.Post parts-Inv parts-μ
   parts-loop-less c = search needs
 
-  parts-loop-again : parts-lts.Need-loop-again parts-calls parts-at parts.Post parts-Inv parts-μ
+  parts-loop-again : parts-lts.Need-loop-again parts-calls (parts-at t) parts.Post parts-Inv parts-μ
   parts-loop-again c =
       let at = c .before .before .before .before .before .before .before .before .before in
       let down : suc (at .loop .j - 1) ≡ at .loop .j = omega arith in
       parts-turn (at .loop .inv) down (c .before .before .before .before .before .before .part-value2 .ensures) (c .before .before .join .ensures)
 
-  parts-same-length : parts-lts.Need-same-length parts-calls parts-at parts.Post parts-Inv parts-μ
+  parts-same-length : parts-lts.Need-same-length parts-calls (parts-at t) parts.Post parts-Inv parts-μ
   parts-same-length c = search needs
 
-  parts-returns : parts-lts.Need-returns parts-calls parts-at parts.Post parts-Inv parts-μ
+  parts-returns : parts-lts.Need-returns parts-calls (parts-at t) parts.Post parts-Inv parts-μ
   parts-returns c = level-rebased (top-joined (c .before .before) .prepared) (parts-level (c .before .loop .inv) (omega arith))
 
 pub +level+part-value+parts-spec : {M : Type 1} → statement M
@@ -320,16 +274,13 @@ pub +level+part-value+parts-spec : {M : Type 1} → statement M
     (part-value-returns t))
     (λ t. parts-lts.spec (parts-calls t) (parts-at t) parts.Post (parts-Inv t) (parts-μ t)
     (parts-add-value t)
-    (parts-add-next t)
-    (parts-rounded-up-requires t)
-    (parts-add-pth-powers t)
-    (parts-pth-powers-requires t)
-    (parts-smaller-requires t)
-    (parts-sub-j t)
+    (parts-prepare-requires t)
+    (parts-top-part-requires t)
     (parts-part-value-requires t)
+    (parts-add-move-down t)
     (parts-move-down-requires t)
     (parts-loop-holds t)
-    (parts-sub-j-2 t)
+    (parts-sub-j t)
     (parts-part-value-requires-2 t)
     (parts-add-weight t)
     (parts-join-requires t)
