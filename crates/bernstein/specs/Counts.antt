@@ -6,15 +6,14 @@
 --   partCount-sum       the counts of the min(p, m) parts add up to m
 -- Assumes nothing.
 use Prim.Native.Nat.{ℕ, zero, suc, _+_, _*_, _-_, _<_, _≤_, min}
-use native.Mathlib.Decide.{decLt}
 use native.Mathlib.Nat.{min-le-left, mul-comm, mul-le-mul-left}
 use native.Mathlib.Numerals.{add-one}
 use native.Mathlib.Omega.{arith, by-contra}
 use mathlib.Core.Bool.{cond}
-use mathlib.Core.Path.{_≡_, refl, sym, _∙_}
+use mathlib.Core.Path.{_≡_, sym, _∙_}
 use borrow.Author.Tests.{lt-ltb, le-ltb}
 use lib.Dec.{ltb}
-use Rattle.algebra.specs.Lists.{ceilDiv-0, ceilDiv-below, ceilDiv-covers, sum-cong, sum-naturals, sum-beyond}
+use Rattle.algebra.specs.Lists.{ceilDiv-below, ceilDiv-covers, sum-cong, sum-naturals, sum-beyond}
 use Rattle.algebra.specs.Parts.{partCount-below}
 use Rattle.algebra.specs.Semiring.{naturals}
 use Rattle.algebra.specs.Sum as Sum

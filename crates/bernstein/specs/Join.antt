@@ -5,7 +5,7 @@
 --   join-operands   what the product requires
 --   join-moved      the product, and then its result moved to the value
 -- Assumes nothing.
-use Prim.Native.Nat.{ℕ, _+_, _*_, _≤_}
+use Prim.Native.Nat.{ℕ, _+_}
 use native.Mathlib.Omega.{arith}
 use mathlib.Core.Logic.{inl}
 use mathlib.Core.Path.{_≡_, _∙_}

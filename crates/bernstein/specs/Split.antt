@@ -7,14 +7,14 @@
 --   joined-next         the join of one part more
 --   joined-all          with all parts joined this is f(g)
 -- Assumes nothing.
-use Prim.Native.Nat.{ℕ, zero, suc, _+_, _*_, _-_, _^_, _%_, _<_, _≤_, min}
+use Prim.Native.Nat.{ℕ, suc, _+_, _-_, _%_, _<_, min}
 use native.Mathlib.Decide.{decLt}
-use native.Mathlib.Nat.{add-zero, add-suc, le-refl, min-le-left, mod-mod, mod-lt, mul-one, mul-zero, sub-zero, suc-add, zero-add, zero-mod}
+use native.Mathlib.Nat.{add-zero, add-suc, le-refl, min-le-left, mod-mod, mod-lt, sub-zero, suc-add, zero-add, zero-mod}
 use native.Mathlib.Omega.{arith}
-use mathlib.Core.Path.{_≡_, refl, sym, ap, _∙_}
-use mathlib.Core.List.{List, [], _∷_}
+use mathlib.Core.Path.{_≡_, sym, ap, _∙_}
+use mathlib.Core.List.{List}
 use lib.ListN.{length, take}
-use Rattle.algebra.specs.Agree.{Agree, agree-refl, agree-sym, agree-trans, agree-⊞, agree-⊠}
+use Rattle.algebra.specs.Agree.{Agree, agree-refl, agree-trans, agree-⊞, agree-⊠}
 use Rattle.algebra.specs.Bridge.{
   series-of,
   residue-series,
@@ -31,7 +31,7 @@ use Rattle.algebra.specs.Composition.{series-composed}
 use Rattle.algebra.specs.Evaluate.{evaluate-agree}
 use Rattle.algebra.specs.Fermat.{fermat}
 use Rattle.algebra.specs.Homomorphism.{coefficients-at}
-use Rattle.algebra.specs.Lists.{coefficient-tabulate, length-tabulate, tabulate-beyond, tabulate-cong, coefficient-beyond}
+use Rattle.algebra.specs.Lists.{coefficient-tabulate, tabulate-beyond, tabulate-cong, coefficient-beyond}
 use Rattle.algebra.specs.Parts.{bernstein}
 use Rattle.algebra.specs.Power.{power, power-0, power-suc}
 use Rattle.algebra.specs.Prime.{prime-positive}

@@ -124,9 +124,9 @@ fn part_value(p: u32, n: usize, m: usize, j: usize, w: &mut [u32]) -> u64
     let step = p as usize;
     let order = rounded_up(n, step);
     let count = part(step, j, w, n, m, rest + order);
-    let weight = level(p, order, count, &mut w[rest..]);
+    let sum = level(p, order, count, &mut w[rest..]);
     spread(step, n, w, rest + (order + count), order, next);
-    weight
+    sum
 }
 
 // The parts from the top one down, joined by Horner's rule in g.
@@ -154,10 +154,9 @@ fn level(p: u32, n: usize, m: usize, w: &mut [u32]) -> u64
 {
     if m <= 1 {
         constant(p, n, m, w);
-        0
-    } else {
-        parts(p, n, m, w)
+        return 0;
     }
+    parts(p, n, m, w)
 }
 
 // f(g) modulo x^n and p by route 3, for a prime p.

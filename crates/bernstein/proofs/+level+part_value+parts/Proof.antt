@@ -78,14 +78,16 @@ module _ (t : ℕ) where
   level-constant-requires : level-lts.Need-constant-requires level-calls (level-at t) level.Post
   level-constant-requires c κs = search needs
 
-  level-parts-requires : level-lts.Need-parts-requires level-calls (level-at t) level.Post
-  level-parts-requires c κs = search needs
-
   level-same-length : level-lts.Need-same-length level-calls (level-at t) level.Post
   level-same-length c = search needs
 
   level-returns : level-lts.Need-returns level-calls (level-at t) level.Post
-  level-returns c = level-constant (c .before .before .before .before .before .before .pre .1) (c .before .before .before .before .if1 .taken) (c .before .before .constant .ensures)
+  level-returns c =
+      let then = c .before .before .before .before in
+      level-constant (then .before .before .pre .1) (then .if1 .taken) (c .before .before .constant .ensures)
+
+  level-parts-requires : level-lts.Need-parts-requires level-calls (level-at t) level.Post
+  level-parts-requires c κs = search needs
 
   level-same-length-2 : level-lts.Need-same-length-2 level-calls (level-at t) level.Post
   level-same-length-2 c = search needs
@@ -133,7 +135,8 @@ module _ (t : ℕ) where
       let at = c .before .before .before in
       let start = at .before .before .before .before in
       let rounded = at .before .before .rounded-up .ensures in
-      (omega (arith, fewer (start .pre .1) rounded (at .part .ensures), start .pre .0), room-rest (start .pre .1) rounded (at .part .ensures))
+      let ready = start .pre .1 in
+      (omega (arith, fewer ready rounded (at .part .ensures), start .pre .0), room-rest ready rounded (at .part .ensures))
 
   part-value-add-spread : part-value-lts.Need-add-spread part-value-calls (part-value-at t) part-value.Post
   part-value-add-spread c =
@@ -161,10 +164,11 @@ module _ (t : ℕ) where
 
   part-value-returns : part-value-lts.Need-returns part-value-calls (part-value-at t) part-value.Post
   part-value-returns c =
-      let at = c .before .before .before .before .before .before .before .before .before .before in
+      let level = c .before .before .before .before .before .before in
+      let at = level .before .before .before .before in
       let start = at .before .before .before .before in
       let rounded = at .before .before .rounded-up .ensures in
-      part-value-written (start .pre .1) rounded (at .part .ensures) (c .before .before .before .before .before .before .level .ensures) (c .before .before .spread .ensures)
+      part-value-written (start .pre .1) rounded (at .part .ensures) (level .level .ensures) (c .before .before .spread .ensures)
 
   abbrev parts-Inv : parts-lts.InvT-loop
   parts-Inv p n m w₀ value j₀ weight₀ w j weight = PartsJoined p n m w₀ j w weight
@@ -183,8 +187,7 @@ module _ (t : ℕ) where
 
   parts-part-value-requires : parts-lts.Need-part-value-requires parts-calls (parts-at t) parts.Post parts-Inv parts-μ
   parts-part-value-requires c κs =
-      let start = c .before .before .before .before .before .before .before in
-      (
+      let start = c .before .before .before .before .before .before .before in (
         omega (arith, start .pre .0),
         prepared-ready (c .before .before .before .before .prepare .ensures) _ (omega (arith, c .before .top-part .ensures, start .pre .1 .1)),
       )
@@ -197,12 +200,16 @@ module _ (t : ℕ) where
 
   -- the top part is joined
   top-joined : (c : parts-lts.After-slice-known4 parts-calls (parts-at t) parts.Post parts-Inv parts-μ)
-      → (let args = c .before .before .before .before .before .before .before .before .before .before .before .before .before .before .args in
-      PartsJoined (args .p) (args .n) (args .m) (args .w .now)
-      (c .before .before .before .before .before .before .before .before .top-part .result) (c .before .before .move-down .last .0) (c .before .before .before .before .before .before .part-value .result))
+      → (let value = c .before .before .before .before .before .before in
+      let top = value .before .before in
+      let args = top .before .before .before .before .before .before .args in
+      PartsJoined (args .p) (args .n) (args .m) (args .w .now) (top .top-part .result)
+      (c .before .before .move-down .last .0) (value .part-value .result))
   top-joined c =
-      parts-first (c .before .before .before .before .before .before .before .before .before .before .before .prepare .ensures) (c .before .before .before .before .before .before .before .before .top-part .ensures)
-      (c .before .before .before .before .before .before .part-value .ensures) (c .before .before .move-down .ensures)
+      let value = c .before .before .before .before .before .before in
+      let top = value .before .before in
+      let prepare = top .before .before .before in
+      parts-first (prepare .prepare .ensures) (top .top-part .ensures) (value .part-value .ensures) (c .before .before .move-down .ensures)
 
   parts-loop-holds : parts-lts.Need-loop-holds parts-calls (parts-at t) parts.Post parts-Inv parts-μ
   parts-loop-holds c = parts-rebased (top-joined c)
@@ -212,8 +219,10 @@ module _ (t : ℕ) where
 
   parts-part-value-requires-2 : parts-lts.Need-part-value-requires-2 parts-calls (parts-at t) parts.Post parts-Inv parts-μ
   parts-part-value-requires-2 c κs =
-      let inv = c .before .before .loop .inv in
-      (omega (arith, c .before .before .before .before .before .before .before .before .before .before .before .before .before .before .before .before .before .pre .0), prepared-ready (inv .prepared) _ (omega (arith, inv .index)))
+      let at = c .before .before in
+      let start = at .before .before .before .before .before .before .before .before .before .before .before .before .before .before .before in
+      let inv = at .loop .inv in
+      (omega (arith, start .pre .0), prepared-ready (inv .prepared) _ (omega (arith, inv .index)))
 
   parts-add-weight : parts-lts.Need-add-weight parts-calls (parts-at t) parts.Post parts-Inv parts-μ
   parts-add-weight c =
@@ -222,13 +231,16 @@ module _ (t : ℕ) where
       omega (arith, parts-small (at .loop .inv) down, c .before .before .part-value2 .ensures .sum)
 
   parts-join-requires : parts-lts.Need-join-requires parts-calls (parts-at t) parts.Post parts-Inv parts-μ
-  parts-join-requires c κs = parts-room (c .before .before .before .before .before .before .loop .inv) (c .before .before .before .part-value2 .ensures)
+  parts-join-requires c κs =
+      let part = c .before .before .before in
+      parts-room (part .before .before .before .loop .inv) (part .part-value2 .ensures)
 
   parts-add-weight-2 : parts-lts.Need-add-weight-2 parts-calls (parts-at t) parts.Post parts-Inv parts-μ
   parts-add-weight-2 c =
       let at = c .before .before .before .before .before .before .before .before .before in
       let down : suc (at .loop .j - 1) ≡ at .loop .j = omega arith in
-      omega (arith, parts-small (at .loop .inv) down, c .before .before .before .before .before .before .part-value2 .ensures .sum, c .before .before .join .ensures .places)
+      let part = c .before .before .before .before .before .before in
+      omega (arith, parts-small (at .loop .inv) down, part .part-value2 .ensures .sum, c .before .before .join .ensures .places)
 
   parts-loop-less : parts-lts.Need-loop-less parts-calls (parts-at t) parts.Post parts-Inv parts-μ
   parts-loop-less c = search needs
@@ -237,7 +249,8 @@ module _ (t : ℕ) where
   parts-loop-again c =
       let at = c .before .before .before .before .before .before .before .before .before in
       let down : suc (at .loop .j - 1) ≡ at .loop .j = omega arith in
-      parts-turn (at .loop .inv) down (c .before .before .before .before .before .before .part-value2 .ensures) (c .before .before .join .ensures)
+      let part = c .before .before .before .before .before .before in
+      parts-turn (at .loop .inv) down (part .part-value2 .ensures) (c .before .before .join .ensures)
 
   parts-same-length : parts-lts.Need-same-length parts-calls (parts-at t) parts.Post parts-Inv parts-μ
   parts-same-length c = search needs
@@ -250,9 +263,9 @@ pub +level+part-value+parts-spec : {M : Type 1} → statement M
     close μ-level μ-part-value μ-parts
     (λ t. level-lts.spec (level-calls t) (level-at t) level.Post
     (level-constant-requires t)
-    (level-parts-requires t)
     (level-same-length t)
     (level-returns t)
+    (level-parts-requires t)
     (level-same-length-2 t)
     (level-returns-2 t))
     (λ t. part-value-lts.spec (part-value-calls t) (part-value-at t) part-value.Post

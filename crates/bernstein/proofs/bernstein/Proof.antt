@@ -1,10 +1,10 @@
 -- `bernstein::bernstein` meets its contract. Assumes nothing.
 use borrow.Author.Needs.{needs}
 use native.Mathlib.Omega.{arith}
-use lib.ListN.{length}
 use mathlib.Core.Path.{_≡_, _∙_}
-use Rattle.bernstein.specs.Level.{level-put}
+use lib.ListN.{length}
 use Rattle.route.specs.Contract.{lent-places, put-composed, put-within, route-finished}
+use Rattle.bernstein.specs.Level.{level-put}
 use Rattle.bernstein.proofs.bernstein.Statement.{statement}
 use Rattle.bernstein.proofs.bernstein.Tie as tie
 
@@ -15,7 +15,9 @@ put-requires : tie.Need-put-requires
 put-requires c κs = omega (arith, lent-places (c .before .before .before .before .before .before .pre .0))
 
 put-requires-2 : tie.Need-put-requires-2
-put-requires-2 c κs = omega (arith, lent-places (c .before .before .before .before .before .before .before .before .before .before .pre .0), c .before .before .before .put .kept .1 .1 .0)
+put-requires-2 c κs =
+    let put = c .before .before .before in
+    omega (arith, lent-places (put .before .before .before .before .before .before .before .pre .0), put .put .kept .1 .1 .0)
 
 level-requires : tie.Need-level-requires
 level-requires c κs =
@@ -63,7 +65,8 @@ returns c =
     let done = level-put f (omega (arith, put .put .kept .1 .1 .0)) (put2 .put2 .ensures) (level .level .ensures) in
     route-finished
     (put-within (length f) (start .args .g .now) (start .args .w .now) (put .put .ensures) (done .0) (omega arith))
-    (done .1 ∙ put-composed f (start .args .g .now) (start .args .w .now) (put .put .last .1 .1 .0) (start .pre .0 .modulus) (omega arith) (put .put .ensures))
+    (done .1
+    ∙ put-composed f (start .args .g .now) (start .args .w .now) (put .put .last .1 .1 .0) (start .pre .0 .modulus) (omega arith) (put .put .ensures))
     (level .level .ensures .sum)
     (start .pre .0 .output)
     (rw (places .work-places .ensures) at (finish .finish .ensures))

@@ -3,8 +3,8 @@ use borrow.Author.Needs.{needs}
 use native.Mathlib.Nat.{add-sub-cancel-left}
 use native.Mathlib.Omega.{arith}
 use Prim.Native.Nat.{_≤_}
-use lib.ListN.{length}
 use mathlib.Core.Path.{_∙_}
+use lib.ListN.{length}
 use Rattle.algebra.specs.Composition.{composed-constant}
 use Rattle.product.specs.Segments.{segment, length-segment}
 use Rattle.bernstein.proofs.constant.Statement.{statement}
@@ -43,7 +43,11 @@ returns c =
     let f = segment (start .args .w .now) (start .args .n) (start .args .m) in
     let short : length f ≤ 1 = omega (arith, length-segment (start .args .w .now) (start .args .n) (start .args .m)) in
     c .before .before .put-constant .ensures
-    ∙ rw (← composed-constant (start .args .p) (start .args .n) f _ short, ← add-sub-cancel-left (start .args .n) (start .args .m), ← c .before .before .before .before .place .ensures)
+    ∙ rw (
+      ← composed-constant (start .args .p) (start .args .n) f _ short,
+      ← add-sub-cancel-left (start .args .n) (start .args .m),
+      ← c .before .before .before .before .place .ensures,
+    )
 
 pub constant-spec : {M : Type 1} → statement M
 constant-spec =

@@ -1,10 +1,6 @@
 -- `bernstein::join` meets its contract. Assumes nothing.
 use borrow.Author.Needs.{needs}
 use Rattle.bernstein.specs.Join.{join-operands, join-moved}
-use native.Mathlib.Omega.{arith}
-use Prim.Native.Nat.{ℕ, _+_, _*_, _-_, _<_, _≤_, _%_}
-use lib.ListN.{length, getD, take, drop, set}
-use mathlib.Core.Path.{_≡_, refl, sym, ap, _∙_}
 use Rattle.bernstein.proofs.join.Statement.{statement}
 use Rattle.bernstein.proofs.join.Tie as tie
 

@@ -1,16 +1,16 @@
 -- `bernstein::part` meets its contract: after i turns the first i places of the part are written. Assumes nothing.
+use borrow.Author.Needs.{needs}
+use native.Mathlib.Omega.{arith}
+use Prim.Native.Nat.{_+_, _*_, _-_, _<_, _≤_}
+use mathlib.Core.Path.{_≡_, _∙_}
 use lib.Seq.{sets}
-use Rattle.definition.specs.Bernstein.{part, partAt, partCount}
-use Rattle.definition.specs.Lists.{tabulate, coefficient}
+use lib.ListN.{length}
 use Rattle.buffer.specs.Written.{length-part}
+use Rattle.definition.specs.Bernstein.{part, partAt, partCount}
+use Rattle.definition.specs.Lists.{tabulate}
 use Rattle.product.specs.Segments.{segment}
 use Rattle.route.specs.Table.{table-first, table-next}
 use Rattle.bernstein.specs.Steps.{place-kept, part-place}
-use borrow.Author.Needs.{needs}
-use native.Mathlib.Omega.{arith}
-use Prim.Native.Nat.{ℕ, _+_, _*_, _-_, _<_, _≤_, _%_}
-use lib.ListN.{length, getD, take, drop, set}
-use mathlib.Core.Path.{_≡_, refl, sym, ap, _∙_}
 use Rattle.bernstein.proofs.part.Statement.{statement}
 use Rattle.bernstein.proofs.part.Tie as tie
 

@@ -1,10 +1,7 @@
 -- `bernstein::rounded_up` meets its contract. Assumes nothing.
-use Rattle.definition.specs.Lists.{ceilDiv}
 use borrow.Author.Needs.{needs}
-use native.Mathlib.Omega.{arith}
-use Prim.Native.Nat.{ℕ, _+_, _*_, _-_, _<_, _≤_, _%_}
-use lib.ListN.{length, getD, take, drop, set}
-use mathlib.Core.Path.{_≡_, refl, sym, ap, _∙_}
+use mathlib.Core.Path.{refl}
+use Rattle.definition.specs.Lists.{ceilDiv}
 use Rattle.bernstein.proofs.rounded_up.Statement.{statement}
 use Rattle.bernstein.proofs.rounded_up.Tie as tie
 

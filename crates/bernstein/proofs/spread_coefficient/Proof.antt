@@ -1,11 +1,8 @@
 -- `bernstein::spread_coefficient` meets its contract. Assumes nothing.
-use Rattle.definition.specs.Bernstein.{spread}
 use borrow.Author.Needs.{needs}
 use borrow.Author.Tests.{eq-eqb, ne-eqb}
-use native.Mathlib.Omega.{arith}
-use Prim.Native.Nat.{ℕ, _+_, _*_, _-_, _<_, _≤_, _%_}
-use lib.ListN.{length, getD, take, drop, set}
-use mathlib.Core.Path.{_≡_, refl, sym, ap, _∙_}
+use mathlib.Core.Path.{_∙_}
+use Rattle.definition.specs.Bernstein.{spread}
 use Rattle.bernstein.proofs.spread_coefficient.Statement.{statement}
 use Rattle.bernstein.proofs.spread_coefficient.Tie as tie
 
