@@ -9,6 +9,7 @@
 --   part-value-written   what `part_value` ensures, from what its steps do
 -- Assumes nothing.
 use Prim.Native.Nat.{ℕ, _+_, _*_, _-_, _<_, _≤_}
+use native.Mathlib.Nat.{add-assoc}
 use native.Mathlib.Omega.{arith}
 use mathlib.Core.Logic.{inl, inr}
 use mathlib.Core.Path.{_≡_, sym, ap, _∙_}
@@ -102,21 +103,21 @@ module _ {p n m j order : ℕ} {w : List ℕ} (ready : PartReady p n m j w) (rou
       rest-within =
           rw back-all (within-rest (restAt n m) v rest (omega (arith, part-within .size)) (rw lent-all at (below .within)))
 
-      pub room-spread : Apart back (restAt n m + (order + count)) order (nextAt n m) n
+      pub room-spread : Apart back (restAt n m + order + count) order (nextAt n m) n
       room-spread = record {
         source = omega (arith, rest-fits, rest-within .size, part-within .size);
         target = omega (arith, rest-within .size, part-within .size);
         apart = inr (omega arith);
       }
 
-      value : segment back (restAt n m + (order + count)) order ≡ partValue p n f (segment w 0 n) j
+      value : segment back (restAt n m + order + count) order ≡ partValue p n f (segment w 0 n) j
       value =
-          rw back-all (segment-rest (restAt n m) v rest (order + count) order (omega (arith, part-within .size)))
+          rw (back-all, add-assoc) (segment-rest (restAt n m) v rest (order + count) order (omega (arith, part-within .size)))
           ∙ below .value
           ∙ rw (given-part, given-powers, rounded)
 
       abbrev spread-value : List ℕ
-      spread-value = spreadList p n (segment back (restAt n m + (order + count)) order)
+      spread-value = spreadList p n (segment back (restAt n m + order + count) order)
 
       pub part-value-written : {after : List ℕ} → after ≡ sets back (nextAt n m) spread-value → PartValue p n m j w after weight
       part-value-written {after} spread-out = record {
@@ -136,7 +137,7 @@ module _ {p n m j order : ℕ} {w : List ℕ} (ready : PartReady p n m j w) (rou
       }
         where
           size-out : length spread-value ≡ n
-          size-out = length-spread p n (segment back (restAt n m + (order + count)) order)
+          size-out = length-spread p n (segment back (restAt n m + order + count) order)
 
           out : Within (nextAt n m) n back after
           out = rw spread-out (within-sets back (nextAt n m) spread-value (omega arith) (omega (arith, size-out)))

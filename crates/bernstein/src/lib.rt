@@ -123,9 +123,10 @@ fn part_value(p: u32, n: usize, m: usize, j: usize, w: &mut [u32]) -> u64
     let rest = next + n;
     let step = p as usize;
     let order = rounded_up(n, step);
-    let count = part(step, j, w, n, m, rest + order);
+    let at = rest + order;
+    let count = part(step, j, w, n, m, at);
     let sum = level(p, order, count, &mut w[rest..]);
-    spread(step, n, w, rest + (order + count), order, next);
+    spread(step, n, w, at + count, order, next);
     sum
 }
 

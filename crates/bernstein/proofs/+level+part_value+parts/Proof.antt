@@ -107,8 +107,8 @@ module _ (t : ℕ) where
   part-value-rounded-up-requires : part-value-lts.Need-rounded-up-requires part-value-calls (part-value-at t) part-value.Post
   part-value-rounded-up-requires c κs = search needs
 
-  part-value-add-part : part-value-lts.Need-add-part part-value-calls (part-value-at t) part-value.Post
-  part-value-add-part c = omega (arith, room-part (c .before .before .before .pre .1) (c .before .rounded-up .ensures) .target)
+  part-value-add-at : part-value-lts.Need-add-at part-value-calls (part-value-at t) part-value.Post
+  part-value-add-at c = omega (arith, room-part (c .before .before .pre .1) (c .rounded-up .ensures) .target)
 
   part-value-part-requires : part-value-lts.Need-part-requires part-value-calls (part-value-at t) part-value.Post
   part-value-part-requires c κs = (
@@ -140,13 +140,6 @@ module _ (t : ℕ) where
 
   part-value-add-spread : part-value-lts.Need-add-spread part-value-calls (part-value-at t) part-value.Post
   part-value-add-spread c =
-      let at = c .before .before .before .before .before .before .before in
-      let start = at .before .before .before .before in
-      let rounded = at .before .before .rounded-up .ensures in
-      omega (arith, rest-fits (start .pre .1) rounded (at .part .ensures))
-
-  part-value-add-spread-2 : part-value-lts.Need-add-spread-2 part-value-calls (part-value-at t) part-value.Post
-  part-value-add-spread-2 c =
       let at = c .before .before .before .before .before .before .before in
       let start = at .before .before .before .before in
       let rounded = at .before .before .rounded-up .ensures in
@@ -273,7 +266,7 @@ pub +level+part-value+parts-spec : {M : Type 1} → statement M
     (part-value-add-next-2 t)
     (part-value-add-rest t)
     (part-value-rounded-up-requires t)
-    (part-value-add-part t)
+    (part-value-add-at t)
     (part-value-part-requires t)
     (part-value-mul-level t)
     (part-value-sub-level t)
@@ -281,7 +274,6 @@ pub +level+part-value+parts-spec : {M : Type 1} → statement M
     (part-value-part-level-end t)
     (part-value-level-requires t)
     (part-value-add-spread t)
-    (part-value-add-spread-2 t)
     (part-value-spread-requires t)
     (part-value-same-length t)
     (part-value-returns t))
