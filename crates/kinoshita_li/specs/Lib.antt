@@ -1,0 +1,4 @@
+-- The contracts of route 4's steps and levels, and the laws behind them.
+--
+--   Steps   steps on rows of one list
+pub mod Steps
