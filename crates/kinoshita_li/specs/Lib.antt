@@ -2,5 +2,9 @@
 --
 --   Steps      steps on rows of one list
 --   Division   the division of the last level
+--   Exact      polynomials that rows hold whole
+--   Space      the places that the levels use
 pub mod Steps
 pub mod Division
+pub mod Exact
+pub mod Space
