@@ -1,10 +1,10 @@
 -- The two halves of a level: the denominator of the next level, and the result from that of the next level.
 --
---   Parts       what `graeffe` requires: Q, Q(-x, y), the product and the even part stand one after the other
---   Graeffe     its contract
+--   Parts              what `graeffe` and `expand` require: the parts of a level stand in w one after the other
+--   parts-length       they do so in every list of that length
+--   Graeffe            the contract of `graeffe`
 --   graeffe-written    what it writes meets it
---   Expanding   what `expand` requires: the result, B, U(x^2, y) and U stand one after the other
---   Expanded    its contract
+--   Expanded           the contract of `expand`
 --   expanded-written   what it writes meets it
 -- Assumes nothing.
 use Prim.Native.Nat.{ℕ, _+_, _-_, _*_, _^_, _<_, _≤_}
@@ -12,7 +12,7 @@ use native.Mathlib.Nat.{le-of-eq}
 use native.Mathlib.Omega.{arith}
 use mathlib.Core.List.{List}
 use mathlib.Core.Logic.{inl}
-use mathlib.Core.Path.{_≡_, refl, ap, _∙_}
+use mathlib.Core.Path.{_≡_, refl, _∙_}
 use lib.ListN.{length}
 use lib.Seq.{sets, length-sets}
 use Rattle.algebra.specs.Rows.{length-plane}
@@ -24,24 +24,66 @@ use Rattle.product.specs.Segments.{segment, length-segment}
 use Rattle.product.specs.declared.Rows.{Rows}
 use Rattle.route.specs.Within.{Within, within-sets, within-trans, within-wider, segment-sets, segment-within}
 use Rattle.kinoshita_li.specs.Exact.{even-plane, opposite-exact, squared-exact, window-0}
+use Rattle.kinoshita_li.specs.declared.level.Layout.{Layout}
 
-pub record Parts (p r h : ℕ) (a : Rows) (t : ℕ) (x : Rows) (rest : ℕ) (w : List ℕ) : Type 0 where
+pub record Parts (p r : ℕ) (s : Layout) (w : List ℕ) : Type 0 where
   pub modulus : 0 < p
   pub order : r ≤ 2 ^ 30
-  pub half : h ≡ ceilDiv r 2
-  pub first : a .at + a .count * r ≤ t
-  pub second : t + a .count * r ≤ x .at
-  pub third : x .at + x .count * r ≤ rest
-  pub fourth : rest + x .count * h ≤ length w
+  pub half : s .half ≡ ceilDiv r 2
+  pub rows : s .window + s .result .count < 2 ^ 64
+  pub same : s .opposite .count ≡ s .denominator .count
+  pub few : s .below .count * r ≤ s .product .count * r
+  pub denominator : s .denominator .at + s .denominator .count * r ≤ s .result .at
+  pub result : s .result .at + s .result .count * r ≤ s .opposite .at
+  pub opposite : s .opposite .at + s .opposite .count * r ≤ s .product .at
+  pub product : s .product .at + s .product .count * r ≤ s .rest
+  pub next : s .rest + s .product .count * s .half ≤ s .below .at
+  pub below : s .below .at + s .below .count * s .half ≤ length w
 
-pub record Graeffe (p r h : ℕ) (a : Rows) (t : ℕ) (x : Rows) (rest : ℕ) (before after : List ℕ) (result : ℕ) : Type 0 where
-  pub opposed : segment after t (a .count * r) ≡ plane r (a .count) (opposite p (held r before a))
-  pub next : segment after rest (x .count * h)
-      ≡ plane h (x .count) (evenPart (cutProduct2At p (held r before a) (opposite p (held r before a))))
-  pub within : Within t (length before - t) before after
-  pub sum : result ≡ r * x .count
+pub parts-length : {p r : ℕ} {s : Layout} {v w : List ℕ} → length v ≡ length w → Parts p r s w → Parts p r s v
+parts-length e o = record {
+  modulus = o .modulus;
+  order = o .order;
+  half = o .half;
+  rows = o .rows;
+  same = o .same;
+  few = o .few;
+  denominator = o .denominator;
+  result = o .result;
+  opposite = o .opposite;
+  product = o .product;
+  next = o .next;
+  below = rw e (o .below);
+}
 
-module _ {p r h : ℕ} {a : Rows} {t : ℕ} {x : Rows} {rest : ℕ} {w : List ℕ} (parts : Parts p r h a t x rest w) where
+-- V: the even part of Q(x, y) Q(-x, y)
+abbrev evenProduct : ℕ → (ℕ → ℕ → ℕ) → ℕ → ℕ → ℕ
+evenProduct p a = evenPart (cutProduct2At p a (opposite p a))
+
+pub record Graeffe (p r : ℕ) (s : Layout) (before after : List ℕ) (result : ℕ) : Type 0 where
+  pub opposed : held r after (s .opposite) ≡ opposite p (held r before (s .denominator))
+  pub even : segment after (s .rest) (s .product .count * s .half)
+      ≡ plane (s .half) (s .product .count) (evenProduct p (held r before (s .denominator)))
+  pub within : Within (s .opposite .at) (length before - s .opposite .at) before after
+  pub sum : result ≡ r * s .product .count
+
+pub record Expanded (p r : ℕ) (s : Layout) (before after : List ℕ) (result : ℕ) : Type 0 where
+  pub rows : segment after (s .result .at) (s .result .count * r)
+      ≡ plane r (s .result .count)
+      (window (s .window) (cutProduct2At p (squared (held (s .half) before (s .below))) (held r before (s .opposite))))
+  pub within : Within (s .result .at) (length before - s .result .at) before after
+  pub sum : result ≡ r * s .result .count
+
+module _ {p r : ℕ} {s : Layout} {w : List ℕ} (parts : Parts p r s w) where
+  abbrev a : Rows
+  a = s .denominator
+
+  abbrev b : Rows
+  b = s .opposite
+
+  abbrev x : Rows
+  x = s .product
+
   abbrev Q : ℕ → ℕ → ℕ
   Q = held r w a
 
@@ -49,114 +91,109 @@ module _ {p r h : ℕ} {a : Rows} {t : ℕ} {x : Rows} {rest : ℕ} {w : List �
   O = plane r (a .count) (opposite p Q)
 
   abbrev w₁ : List ℕ
-  w₁ = sets w t O
-
-  abbrev b : Rows
-  b = record { at = t; count = a .count }
-
-  abbrev w₂ : List ℕ
-  w₂ = sets w₁ (x .at) (plane r (x .count) (window 0 (productOf p r a b w₁)))
-
-  abbrev w₃ : List ℕ
-  w₃ = sets w₂ rest (plane h (x .count) (evenPart (held r w₂ x)))
-
-  abbrev Z : ℕ → ℕ → ℕ
-  Z = cutProduct2At p Q (opposite p Q)
-
-  size-O : length O ≡ a .count * r
-  size-O = length-plane r (a .count) (opposite p Q)
-
-  held-a : held r w₁ a ≡ Q
-  held-a = held-kept r w a (record { source = omega (arith, parts); target = omega (arith, parts); apart = inl (parts .first) }) O (le-of-eq size-O)
-
-  held-b : held r w₁ b ≡ opposite p Q
-  held-b =
-      rw (segment-sets w t O (a .count * r) size-O (omega (arith, parts)))
-      (opposite-exact p r (a .count) (segment w (a .at) (a .count * r)) (length-segment w (a .at) (a .count * r)))
+  w₁ = sets w (b .at) O
 
   abbrev X : List ℕ
   X = plane r (x .count) (window 0 (productOf p r a b w₁))
 
-  size-X : length X ≡ x .count * r
-  size-X = length-plane r (x .count) _
+  abbrev w₂ : List ℕ
+  w₂ = sets w₁ (x .at) X
 
   abbrev E : List ℕ
-  E = plane h (x .count) (evenPart (held r w₂ x))
+  E = plane (s .half) (x .count) (evenPart (held r w₂ x))
 
-  size-E : length E ≡ x .count * h
-  size-E = length-plane h (x .count) _
+  abbrev w₃ : List ℕ
+  w₃ = sets w₂ (s .rest) E
 
-  even : E ≡ plane h (x .count) (evenPart Z)
+  size-O : length O ≡ b .count * r
+  size-O = length-plane r (a .count) (opposite p Q) ∙ rw (parts .same)
+
+  size-X : length X ≡ x .count * r
+  size-X = length-plane r (x .count) (window 0 (productOf p r a b w₁))
+
+  size-E : length E ≡ x .count * s .half
+  size-E = length-plane (s .half) (x .count) (evenPart (held r w₂ x))
+
+  held-a : held r w₁ a ≡ Q
+  held-a =
+      held-kept r w a (record { source = omega (arith, parts); target = omega (arith, parts); apart = inl (omega (arith, parts)) }) O
+      (le-of-eq size-O)
+
+  held-b : held r w₁ b ≡ opposite p Q
+  held-b =
+      rw (segment-sets w (b .at) O (b .count * r) size-O (omega (arith, parts)))
+      (opposite-exact p r (a .count) (segment w (a .at) (a .count * r)) (length-segment w (a .at) (a .count * r)))
+
+  even : E ≡ plane (s .half) (x .count) (evenProduct p Q)
   even =
-      rw (segment-sets w₁ (x .at) X (x .count * r) size-X (rw length-sets (omega (arith, parts))), held-a, held-b, window-0, parts .half)
-      (even-plane r (x .count) Z)
+      rw (
+        segment-sets w₁ (x .at) X (x .count * r) size-X (rw length-sets (omega (arith, parts))),
+        held-a,
+        held-b,
+        window-0,
+        parts .half,
+      )
+      (even-plane r (x .count) (cutProduct2At p Q (opposite p Q)))
 
-  pub graeffe-written : Graeffe p r h a t x rest w w₃ (r * x .count)
+  later : Within (x .at) (length w - x .at) w₁ w₃
+  later =
+      within-trans (within-sets w₁ (x .at) X (omega arith) (omega (arith, size-X, parts)))
+      (within-sets w₂ (s .rest) E (omega (arith, parts)) (omega (arith, size-E, parts)))
+
+  pub graeffe-written : Graeffe p r s w w₃ (r * x .count)
   graeffe-written = record {
-    opposed = segment-within later t (a .count * r) (inl (parts .second)) ∙ segment-sets w t O (a .count * r) size-O (omega (arith, parts));
-    next = segment-sets w₂ rest E (x .count * h) size-E (rw (length-sets, length-sets) (parts .fourth)) ∙ even;
-    within = within-trans (within-sets w t O (omega arith) (omega (arith, size-O, parts))) (within-wider (omega (arith, parts)) (omega (arith, parts)) later);
+    opposed = rw (segment-within later (b .at) (b .count * r) (inl (parts .opposite))) held-b;
+    even = segment-sets w₂ (s .rest) E (x .count * s .half) size-E (rw (length-sets, length-sets) (omega (arith, parts))) ∙ even;
+    within =
+        within-trans (within-sets w (b .at) O (omega arith) (omega (arith, size-O, parts)))
+        (within-wider (omega (arith, parts)) (omega (arith, parts)) later);
     sum = refl;
   }
-    where
-      later : Within (x .at) (length w - x .at) w₁ w₃
-      later =
-          within-trans (within-sets w₁ (x .at) X (omega arith) (omega (arith, size-X, parts)))
-          (within-sets w₂ rest E (omega (arith, parts)) (omega (arith, size-E, parts)))
 
-pub record Expanding (p r h : ℕ) (u : Rows) (x : ℕ) (b : Rows) (low : ℕ) (t : Rows) (w : List ℕ) : Type 0 where
-  pub modulus : 0 < p
-  pub order : r ≤ 2 ^ 30
-  pub half : h ≡ ceilDiv r 2
-  pub first : t .at + t .count * r ≤ b .at
-  pub second : b .at + b .count * r ≤ x
-  pub third : x + u .count * r ≤ u .at
-  pub fourth : u .at + u .count * h ≤ length w
-  pub rows : low + t .count < 2 ^ 64
+  abbrev u : Rows
+  u = s .below
 
-pub record Expanded (p r h : ℕ) (u b : Rows) (low : ℕ) (t : Rows) (before after : List ℕ) (result : ℕ) : Type 0 where
-  pub rows : segment after (t .at) (t .count * r)
-      ≡ plane r (t .count) (window low (cutProduct2At p (squared (held h before u)) (held r before b)))
-  pub within : Within (t .at) (length before - t .at) before after
-  pub sum : result ≡ r * t .count
+  abbrev t : Rows
+  t = s .result
 
-module _ {p r h : ℕ} {u : Rows} {x : ℕ} {b : Rows} {low : ℕ} {t : Rows} {w : List ℕ} (parts : Expanding p r h u x b low t w) where
-  abbrev s : Rows
-  s = record { at = x; count = u .count }
-
-  abbrev w₄ : List ℕ
-  w₄ = sets w x (plane r (u .count) (squared (held h w u)))
-
-  abbrev w₅ : List ℕ
-  w₅ = sets w₄ (t .at) (plane r (t .count) (window low (productOf p r s b w₄)))
+  -- U(x^2, y)
+  abbrev y : Rows
+  y = record { at = x .at; count = u .count }
 
   abbrev S : List ℕ
-  S = plane r (u .count) (squared (held h w u))
+  S = plane r (u .count) (squared (held (s .half) w u))
+
+  abbrev w₄ : List ℕ
+  w₄ = sets w (x .at) S
+
+  abbrev T : List ℕ
+  T = plane r (t .count) (window (s .window) (productOf p r y b w₄))
+
+  abbrev w₅ : List ℕ
+  w₅ = sets w₄ (t .at) T
 
   size-S : length S ≡ u .count * r
-  size-S = length-plane r (u .count) (squared (held h w u))
+  size-S = length-plane r (u .count) (squared (held (s .half) w u))
 
-  held-s : held r w₄ s ≡ squared (held h w u)
-  held-s =
-      rw (segment-sets w x S (u .count * r) size-S (omega (arith, parts)), parts .half)
+  size-T : length T ≡ t .count * r
+  size-T = length-plane r (t .count) (window (s .window) (productOf p r y b w₄))
+
+  held-y : held r w₄ y ≡ squared (held (s .half) w u)
+  held-y =
+      rw (segment-sets w (x .at) S (u .count * r) size-S (omega (arith, parts)), parts .half)
       (squared-exact r (u .count) (segment w (u .at) (u .count * ceilDiv r 2)) (length-segment w (u .at) (u .count * ceilDiv r 2)))
 
   held-factor : held r w₄ b ≡ held r w b
-  held-factor = held-kept r w b (record { source = omega (arith, parts); target = omega (arith, parts); apart = inl (parts .second) }) S (le-of-eq size-S)
+  held-factor =
+      held-kept r w b (record { source = omega (arith, parts); target = omega (arith, parts); apart = inl (parts .opposite) }) S
+      (le-of-eq size-S)
 
-  abbrev T : List ℕ
-  T = plane r (t .count) (window low (productOf p r s b w₄))
-
-  size-T : length T ≡ t .count * r
-  size-T = length-plane r (t .count) (window low (productOf p r s b w₄))
-
-  pub expanded-written : Expanded p r h u b low t w w₅ (r * t .count)
+  pub expanded-written : Expanded p r s w w₅ (r * t .count)
   expanded-written = record {
     rows =
-        segment-sets w₄ (t .at) T (t .count * r) size-T (rw length-sets (omega (arith, parts)))
-        ∙ rw (held-s, held-factor);
+        segment-sets w₄ (t .at) T (t .count * r) size-T (rw length-sets (omega (arith, parts))) ∙ rw (held-y, held-factor);
     within =
-        within-trans (within-sets w x S (omega (arith, parts)) (omega (arith, size-S, parts)))
+        within-trans (within-sets w (x .at) S (omega (arith, parts)) (omega (arith, size-S, parts)))
         (within-sets w₄ (t .at) T (omega arith) (omega (arith, size-T, parts)));
     sum = refl;
   }

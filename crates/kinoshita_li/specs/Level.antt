@@ -3,8 +3,7 @@
 --   LevelLent    what `level` requires
 --   Levelled     its contract: the result of the levels stands behind Q, which is kept
 --   last-room last-level     the last level, at order 1
---   level-room   the parts of a level lie in the list, one after the other
---   level-parts level-next level-expanding   what the two halves of a level and the next level require
+--   level-bounded level-parts level-next   what the layout of a level, its two halves and the next level require
 --   level-done   from what they ensure, what the level ensures
 -- Assumes nothing.
 use Prim.Native.Nat.{ℕ, zero, suc, _+_, _-_, _*_, _^_, _<_, _≤_}
@@ -26,9 +25,11 @@ use Rattle.product.specs.Segments.{segment, length-segment, segment-segment}
 use Rattle.product.specs.declared.Rows.{Rows}
 use Rattle.route.specs.Within.{Within, within-rest, within-sets, within-trans, within-wider, segment-rest, segment-sets, segment-within}
 use Rattle.kinoshita_li.specs.Division.{Divided, length-quotient}
-use Rattle.kinoshita_li.specs.Exact.{opposite-exact, planeAt-column}
-use Rattle.kinoshita_li.specs.Graeffe.{Expanded, Expanding, Graeffe, Parts}
+use Rattle.kinoshita_li.specs.Exact.{planeAt-column}
+use Rattle.kinoshita_li.specs.Graeffe.{Expanded, Graeffe, Parts}
+use Rattle.kinoshita_li.specs.Layout.{Bounded, layoutOf}
 use Rattle.kinoshita_li.specs.Space.{levelPlaces, level-rows}
+use Rattle.kinoshita_li.specs.declared.level.Layout.{Layout}
 
 pub record LevelLent (p levels r q d : ℕ) (f w : List ℕ) : Type 0 where
   pub modulus : 0 < p
@@ -95,128 +96,119 @@ module _ {p q d : ℕ} {f w : List ℕ} (lent : LevelLent p 0 1 q d f w) where
       denominator : segment w₁ 0 (q + 1) ≡ segment w 0 (q + 1)
       denominator = segment-within first 0 (q + 1) (inl (omega arith))
 
-module _ {p levels K r q d : ℕ} {f w : List ℕ} {h next e : ℕ} (lent : LevelLent p levels r q d f w) (el : levels ≡ suc K)
-    (eh : h ≡ ceilDiv r 2) (en : next ≡ degreeBound (length f) q) (ee : e ≡ d - q) where
-  abbrev a : Rows
-  a = record { at = 0; count = q + 1 }
+module _ {p levels K r q d : ℕ} {f w : List ℕ} (lent : LevelLent p levels r q d f w) (deeper : levels ≡ suc K) where
+  abbrev s : Layout
+  s = layoutOf r q d (length f)
 
-  abbrev t : Rows
-  t = record { at = (q + 1) * r; count = length f - d }
+  level-work : s .rest + levelPlaces K (length f) (s .half) (s .next) (s .low) ≤ length w
+  unfolding layoutOf levelPlaces
+  level-work = rw deeper at (lent .work)
 
-  abbrev b : Rows
-  b = record { at = t .at + t .count * r; count = q + 1 }
+  half-small : s .half ≤ 2 ^ K
+  unfolding layoutOf ceilDiv
+  half-small = omega (arith, rw (deeper, pow-suc) at (lent .halvings))
 
-  abbrev x : Rows
-  x = record { at = b .at + b .count * r; count = next + 1 }
+  few : s .below .count ≤ s .product .count
+  unfolding layoutOf degreeBound
+  few = omega (arith, lent)
 
-  abbrev rest : ℕ
-  rest = x .at + x .count * r
+  level-room : s .below .at + s .below .count * s .half ≤ length w
+  unfolding layoutOf
+  level-room = omega (arith, level-work, level-rows K (length f) (s .half) (s .next) (s .low) half-small)
 
-  abbrev u : Rows
-  u = record { at = rest + x .count * h; count = length f - e }
-
-  pub level-work : rest + levelPlaces K (length f) h next e ≤ length w
-  unfolding levelPlaces
-  level-work = rw (eh, en, ee) (rw el at (lent .work))
-
-  half-small : h ≤ 2 ^ K
-  unfolding ceilDiv
-  half-small = omega (arith, rw (el, pow-suc) at (lent .halvings))
-
-  few : u .count ≤ x .count
-  unfolding degreeBound
-  few = omega (arith, lent .kept, lent .degree)
-
-  pub level-room : u .at + u .count * h ≤ length w
-  level-room = omega (arith, level-work, level-rows K (length f) h next e half-small)
-
-  pub level-parts : Parts p r h a (b .at) x rest w
+  pub level-parts : Parts p r s w
+  unfolding layoutOf
   level-parts = record {
     modulus = lent .modulus;
-    order = omega (arith, lent .order);
-    half = eh;
-    first = omega arith;
-    second = omega arith;
-    third = omega arith;
-    fourth = omega (arith, level-room);
+    order = omega (arith, lent);
+    half = refl;
+    rows = omega (arith, lent);
+    same = refl;
+    few = mul-le-mul-right r few;
+    denominator = omega arith;
+    result = omega arith;
+    opposite = omega arith;
+    product = omega arith;
+    next = omega arith;
+    below = level-room;
   }
 
-  module _ (v : List ℕ) (size : length v ≡ length w) where
-    pub level-next : LevelLent p K h next e f (drop rest v)
-    unfolding ceilDiv degreeBound
-    level-next = record {
-      modulus = lent .modulus;
-      positive = omega (arith, lent .positive);
-      order = omega (arith, lent .order);
-      halvings = half-small;
-      outer = lent .outer;
-      degree = omega (arith, lent .degree);
-      low = omega (arith, lent .low);
-      kept = omega (arith, lent .kept, lent .degree);
-      work = rw (length-drop, size) (omega (arith, level-work));
-    }
+  pub level-bounded : length w < 2 ^ 64 → Bounded r q d (length f)
+  level-bounded fits = record {
+    order = lent .order;
+    outer = lent .outer;
+    degree = lent .degree;
+    low = lent .low;
+    places = omega (arith, level-room);
+  }
 
-    pub level-expanding : Expanding p r h u (x .at) b (d - e) t v
-    level-expanding = record {
-      modulus = lent .modulus;
-      order = omega (arith, lent .order);
-      half = eh;
-      first = omega arith;
-      second = omega arith;
-      third = omega (arith, mul-le-mul-right r few);
-      fourth = rw size level-room;
-      rows = omega (arith, lent .outer, lent .low);
-    }
+  pub level-next : (v : List ℕ) → length v ≡ length w → LevelLent p K (s .half) (s .next) (s .low) f (drop (s .rest) v)
+  unfolding layoutOf ceilDiv degreeBound
+  level-next v size = record {
+    modulus = lent .modulus;
+    positive = omega (arith, lent);
+    order = omega (arith, lent);
+    halvings = half-small;
+    outer = lent .outer;
+    degree = omega (arith, lent);
+    low = omega (arith, lent);
+    kept = omega (arith, lent);
+    work = rw (length-drop, size) (omega (arith, level-work));
+  }
 
-  module _ {v rest′ z : List ℕ} {s₁ s₂ s₃ : ℕ} (down : Graeffe p r h a (b .at) x rest w v s₁)
-      (below : Levelled p K h next e f (drop rest v) rest′ s₂) (up : Expanded p r h u b (d - e) t (take rest v ++ rest′) z s₃) where
+  module _ {v rest z : List ℕ} {s₁ s₂ s₃ : ℕ} (down : Graeffe p r s w v s₁)
+      (below : Levelled p K (s .half) (s .next) (s .low) f (drop (s .rest) v) rest s₂)
+      (up : Expanded p r s (take (s .rest) v ++ rest) z s₃) where
     abbrev Q : List ℕ
     Q = segment w 0 ((q + 1) * r)
 
     abbrev y : List ℕ
-    y = take rest v ++ rest′
+    y = take (s .rest) v ++ rest
 
     size-v : length v ≡ length w
     size-v = down .within .size
 
-    behind : Within (rest + (next + 1) * h) (length (drop rest v) - (next + 1) * h) v y
-    behind = within-rest rest v rest′ (omega (arith, level-work, size-v)) (below .within)
+    behind : Within (s .rest + (s .next + 1) * s .half) (length (drop (s .rest) v) - (s .next + 1) * s .half) v y
+    behind = within-rest (s .rest) v rest (omega (arith, level-work, size-v)) (below .within)
 
-    factor : held r y b ≡ opposite p (planeAt r Q)
-    factor =
-        ap (planeAt r) (segment-within behind (b .at) (b .count * r) (inl (omega arith)) ∙ down .opposed)
-        ∙ opposite-exact p r (q + 1) Q (length-segment w 0 ((q + 1) * r))
+    factor : held r y (s .opposite) ≡ opposite p (planeAt r Q)
+    unfolding layoutOf
+    factor = ap (planeAt r) (segment-within behind (s .opposite .at) (s .opposite .count * r) (inl (omega arith))) ∙ down .opposed
 
-    half-denominator : segment v rest ((next + 1) * h) ≡ graeffe-list p (length f) r q Q
-    unfolding graeffe-list
-    half-denominator = down .next ∙ rw (eh, en, add-one)
+    half-denominator : segment v (s .rest) ((s .next + 1) * s .half) ≡ graeffe-list p (length f) r q Q
+    unfolding layoutOf graeffe-list
+    half-denominator = down .even ∙ rw add-one
 
-    half-result : held h y u ≡ planeAt h (levels-list p f K h next e (graeffe-list p (length f) r q Q))
+    half-result : held (s .half) y (s .below)
+        ≡ planeAt (s .half) (levels-list p f K (s .half) (s .next) (s .low) (graeffe-list p (length f) r q Q))
+    unfolding layoutOf
     half-result =
-        ap (planeAt h)
-        (segment-rest rest v rest′ ((next + 1) * h) (u .count * h) (omega (arith, level-work, size-v))
+        ap (planeAt (s .half))
+        (segment-rest (s .rest) v rest ((s .next + 1) * s .half) (s .below .count * s .half) (omega (arith, level-work, size-v))
         ∙ below .rows
-        ∙ ap (levels-list p f K h next e) half-denominator)
+        ∙ ap (levels-list p f K (s .half) (s .next) (s .low)) half-denominator)
 
     pub level-done : Levelled p levels r q d f w z (s₁ + s₂ + s₃)
-    unfolding levels-list kinoshitaLiLevels
+    unfolding layoutOf levels-list kinoshitaLiLevels
     level-done = record {
-      rows = up .rows ∙ rw (half-result, factor, el, eh, en, ee);
+      rows = up .rows ∙ rw (half-result, factor, deeper);
       within =
           within-trans (within-wider (omega arith) (omega (arith, level-work)) (down .within))
-          (within-trans (within-wider (omega arith) (omega (arith, level-room, size-v, length-drop rest v)) behind)
+          (within-trans (within-wider (omega arith) (omega (arith, level-room, size-v, length-drop (s .rest) v)) behind)
           (within-wider (omega arith) (omega (arith, level-work, size-v, behind .size)) (up .within)));
-      sum = rw (down .sum, below .sum, up .sum, el, eh, en, ee) (omega (arith, mul-add r (degreeBound (length f) q + 1) (length f - d)));
+      sum =
+          rw (down .sum, below .sum, up .sum, deeper)
+          (omega (arith, mul-add r (degreeBound (length f) q + 1) (length f - d)));
       fits =
           omega (
             arith,
             level-work,
             size-v,
-            length-drop rest v,
+            length-drop (s .rest) v,
             down .sum,
             below .fits,
             up .sum,
-            mul-comm r (next + 1),
+            mul-comm r (s .next + 1),
             mul-comm r (length f - d),
           );
     }

@@ -4,11 +4,13 @@
 --   Division   the division of the last level
 --   Exact      polynomials that rows hold whole
 --   Space      the places that the levels use
+--   Layout     the parts of a level
 --   Graeffe    the two halves of a level
 --   Level      a level
 pub mod Steps
 pub mod Division
 pub mod Exact
 pub mod Space
+pub mod Layout
 pub mod Graeffe
 pub mod Level

@@ -5,8 +5,9 @@ use product::Rows;
 ghost use mathlib.Core.Path.{_≡_};
 ghost use Prim.Native.Nat.{_-_, _<_, _≤_};
 ghost use Rattle.definition.specs.Weight.{degreeBound};
-ghost use Rattle.kinoshita_li.specs.Graeffe.{Expanded, Expanding, Graeffe, Parts};
+ghost use Rattle.kinoshita_li.specs.Graeffe.{Expanded, Graeffe, Parts};
 ghost use Rattle.kinoshita_li.specs.Level.{LevelLent, Levelled};
+ghost use Rattle.kinoshita_li.specs.Layout.{Bounded, layoutOf};
 
 // The bound on the degree of Q in y one level down: q doubled, up to m - 1.
 fn degree_bound(m: usize, q: usize) -> usize
@@ -23,24 +24,65 @@ fn excess(a: usize, b: usize) -> usize
     if a < b { 0 } else { a - b }
 }
 
-// From the Q in rows of r places at a: Q(-x, y) at t, Q(x, y) Q(-x, y) in the rows at x, and its even part at `rest` in rows of h = ⌈r/2⌉.
-fn graeffe(p: u32, r: usize, h: usize, w: &mut [u32], a: Rows, t: usize, x: Rows, rest: usize) -> u64
-    requires { ⌜ Parts p r h a t x rest (now w) ⌝ }
-    ensures { λ q. ⌜ Graeffe p r h a t x rest (now (w .entry)) (now (w .exit)) q ⌝ }
+// The parts of a level, one after the other: Q, the result, Q(-x, y), the rows of a product, and the rest, lent to the next level.
+pub struct Layout {
+    // ⌈r/2⌉, and q and d one level down
+    pub half: usize,
+    pub next: usize,
+    pub low: usize,
+    // the first power of y that is kept of the second product
+    pub window: usize,
+    pub denominator: Rows,
+    pub result: Rows,
+    pub opposite: Rows,
+    pub product: Rows,
+    pub rest: usize,
+    // the result of the next level
+    pub below: Rows,
+}
+
+// The parts of a level with order r and bounds q and d, for m places of f.
+fn arrange(r: usize, q: usize, d: usize, m: usize) -> Layout
+    requires { ⌜ Bounded r q d m ⌝ }
+    ensures { λ s. ⌜ s ≡ layoutOf r q d m ⌝ }
 {
-    rows::opposite(p, r, w, a, t);
-    let places = product::multiply_rows(p, r, w, a, Rows { at: t, count: a.count }, 0, x);
-    rows::even_part(r, h, w, x, rest);
+    let half = (r + 1) / 2;
+    let next = degree_bound(m, q);
+    let low = excess(d, q);
+    let denominator = Rows { at: 0, count: q + 1 };
+    let result = Rows { at: (q + 1) * r, count: m - d };
+    let opposite = Rows { at: result.at + result.count * r, count: q + 1 };
+    let product = Rows { at: opposite.at + opposite.count * r, count: next + 1 };
+    let rest = product.at + product.count * r;
+    let below = Rows { at: rest + product.count * half, count: m - low };
+    Layout { half, next, low, window: d - low, denominator, result, opposite, product, rest, below }
+}
+
+// The denominator of the next level, at the start of the rest: the even part of Q(x, y) Q(-x, y).
+fn graeffe(p: u32, r: usize, w: &mut [u32], s: Layout) -> u64
+    requires { ⌜ Parts p r s (now w) ⌝ }
+    ensures { λ q. ⌜ Graeffe p r s (now (w .entry)) (now (w .exit)) q ⌝ }
+{
+    let a = s.denominator;
+    let b = s.opposite;
+    let x = s.product;
+    rows::opposite(p, r, w, a, b.at);
+    let places = product::multiply_rows(p, r, w, a, b, 0, x);
+    rows::even_part(r, s.half, w, x, s.rest);
     places
 }
 
-// From the U in rows of h = ⌈r/2⌉ places at u, and B in rows of r places at b: U(x^2, y) at x, and the rows of U(x^2, y) B from `low` on at t.
-fn expand(p: u32, r: usize, h: usize, w: &mut [u32], u: Rows, x: usize, b: Rows, low: usize, t: Rows) -> u64
-    requires { ⌜ Expanding p r h u x b low t (now w) ⌝ }
-    ensures { λ q. ⌜ Expanded p r h u b low t (now (w .entry)) (now (w .exit)) q ⌝ }
+// The result: U(x^2, y) Q(-x, y), for the result U of the next level.
+fn expand(p: u32, r: usize, w: &mut [u32], s: Layout) -> u64
+    requires { ⌜ Parts p r s (now w) ⌝ }
+    ensures { λ q. ⌜ Expanded p r s (now (w .entry)) (now (w .exit)) q ⌝ }
 {
-    rows::squared(h, r, w, u, x);
-    product::multiply_rows(p, r, w, Rows { at: x, count: u.count }, b, low, t)
+    let u = s.below;
+    let b = s.opposite;
+    let x = s.product;
+    let t = s.result;
+    rows::squared(s.half, r, w, u, x.at);
+    product::multiply_rows(p, r, w, Rows { at: x.at, count: u.count }, b, s.window, t)
 }
 
 // The last level, at order 1: leaves the powers of y from d to m - 1 of P / Q(0, y) behind the Q in the first q + 1 places.
@@ -64,18 +106,10 @@ pub fn level(p: u32, levels: usize, r: usize, q: usize, d: usize, f: &[u32], w: 
         last(p, q, d, f, w);
         return 0;
     }
-    let m = f.len();
-    let next = degree_bound(m, q);
-    let e = excess(d, q);
-    let h = (r + 1) / 2;
-    let a = Rows { at: 0, count: q + 1 };
-    let t = Rows { at: (q + 1) * r, count: m - d };
-    let b = Rows { at: t.at + t.count * r, count: q + 1 };
-    let x = Rows { at: b.at + b.count * r, count: next + 1 };
-    let rest = x.at + x.count * r;
-    let u = Rows { at: rest + x.count * h, count: m - e };
-    let down = graeffe(p, r, h, w, a, b.at, x, rest);
-    let below = level(p, levels - 1, h, next, e, f, &mut w[rest..]);
-    let up = expand(p, r, h, w, u, x.at, b, d - e, t);
+    let s = arrange(r, q, d, f.len());
+    let rest = s.rest;
+    let down = graeffe(p, r, w, s);
+    let below = level(p, levels - 1, s.half, s.next, s.low, f, &mut w[rest..]);
+    let up = expand(p, r, w, s);
     down + below + up
 }

@@ -1,33 +1,30 @@
--- `kinoshita_li::level::expand` meets its contract. Assumes nothing.
 use borrow.Author.Needs.{needs}
 use native.Mathlib.Omega.{arith}
-use mathlib.Core.Logic.{inl, inr}
-use Rattle.kinoshita_li.specs.Graeffe.{expanded-written}
+use Prim.Native.Nat.{ℕ, _+_, _*_, _-_, _<_, _≤_, _%_}
+use lib.ListN.{length, getD, take, drop, set}
+use mathlib.Core.Path.{_≡_, refl, sym, ap, _∙_}
 use Rattle.kinoshita_li.proofs.level.expand.Statement.{statement}
 use Rattle.kinoshita_li.proofs.level.expand.Tie as tie
+use Rattle.kinoshita_li.proofs.level.expand.Reads as reads
+use Rattle.kinoshita_li.proofs.level.expand.Lts as lts
+use Rattle.kinoshita_li.proofs.rows.squared.Reads as squared-reads
+use Rattle.product.proofs.multiply_rows.Reads as multiply-rows-reads
 
+-- src/level.rt:84:5
 squared-requires : tie.Need-squared-requires
-squared-requires c κs = record { source = omega arith; target = omega arith; apart = inr (omega arith) }
+squared-requires c κs = search needs
 
+-- src/level.rt:85:5
 multiply-rows-requires : tie.Need-multiply-rows-requires
-multiply-rows-requires c κs =
-    let parts = c .before .before .before .before .before .before .pre in
-    (record {
-      modulus = parts .modulus;
-      order = parts .order;
-      left = record { source = omega arith; target = omega arith; apart = inr (omega arith) };
-      right = record { source = omega arith; target = omega arith; apart = inr (omega arith) };
-    }, parts .rows)
+multiply-rows-requires c κs = search needs
 
+-- src/level.rt:76:1
 same-length : tie.Need-same-length
 same-length c = search needs
 
+-- src/level.rt:76:1
 returns : tie.Need-returns
-returns c =
-    let product = c .before .before in
-    let squared = product .before .before .before .before in
-    rw (product .multiply-rows .ensures .written, product .multiply-rows .ensures .places, squared .squared .ensures)
-    (expanded-written (squared .before .before .before .pre))
+returns c = search needs
 
 pub expand-spec : {M : Type 1} → statement M
 expand-spec = tie.close (tie.spec squared-requires multiply-rows-requires same-length returns)
