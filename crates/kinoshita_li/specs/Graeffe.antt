@@ -31,6 +31,7 @@ pub record Parts (p r : ℕ) (s : Layout) (w : List ℕ) : Type 0 where
   pub order : r ≤ 2 ^ 30
   pub half : s .half ≡ ceilDiv r 2
   pub rows : s .window + s .result .count < 2 ^ 64
+  pub degree : s .product .count < 2 ^ 64
   pub same : s .opposite .count ≡ s .denominator .count
   pub few : s .below .count * r ≤ s .product .count * r
   pub denominator : s .denominator .at + s .denominator .count * r ≤ s .result .at
@@ -46,6 +47,7 @@ parts-length e o = record {
   order = o .order;
   half = o .half;
   rows = o .rows;
+  degree = o .degree;
   same = o .same;
   few = o .few;
   denominator = o .denominator;

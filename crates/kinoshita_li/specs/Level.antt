@@ -117,12 +117,13 @@ module _ {p levels K r q d : ℕ} {f w : List ℕ} (lent : LevelLent p levels r 
   level-room = omega (arith, level-work, level-rows K (length f) (s .half) (s .next) (s .low) half-small)
 
   pub level-parts : Parts p r s w
-  unfolding layoutOf
+  unfolding layoutOf degreeBound
   level-parts = record {
     modulus = lent .modulus;
     order = omega (arith, lent);
     half = refl;
     rows = omega (arith, lent);
+    degree = omega (arith, lent);
     same = refl;
     few = mul-le-mul-right r few;
     denominator = omega arith;

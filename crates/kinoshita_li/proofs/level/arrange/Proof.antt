@@ -1,94 +1,86 @@
+-- `kinoshita_li::level::arrange` meets its contract. Assumes nothing.
 use borrow.Author.Needs.{needs}
 use native.Mathlib.Omega.{arith}
-use Prim.Native.Nat.{ℕ, _+_, _*_, _-_, _<_, _≤_, _%_}
-use lib.ListN.{length, getD, take, drop, set}
-use mathlib.Core.Path.{_≡_, refl, sym, ap, _∙_}
+use Prim.Native.Nat.{_+_, _-_, _*_, _/_, _<_, _^_}
+use Rattle.definition.specs.Lists.{ceilDiv}
+use Rattle.definition.specs.Weight.{degreeBound}
+use Rattle.kinoshita_li.specs.Layout.{layoutOf}
 use Rattle.kinoshita_li.proofs.level.arrange.Statement.{statement}
 use Rattle.kinoshita_li.proofs.level.arrange.Tie as tie
-use Rattle.kinoshita_li.proofs.level.arrange.Reads as reads
-use Rattle.kinoshita_li.proofs.level.arrange.Lts as lts
-use Rattle.kinoshita_li.proofs.level.degree_bound.Reads as degree-bound-reads
-use Rattle.kinoshita_li.proofs.level.excess.Reads as excess-reads
 
--- src/level.rt:49:17
+module _ (c : tie.After-excess) where
+  abbrev start : tie.Start
+  start = c .before .before
+
+  room : (start .args .q + 1) * start .args .r + (start .args .m - start .args .d) * start .args .r + (start .args .q + 1) * start .args .r
+      + (c .before .degree-bound .result + 1) * start .args .r + (c .before .degree-bound .result + 1) * ((start .args .r + 1) / 2)
+      < 2 ^ 64
+  unfolding layoutOf ceilDiv
+  room = rw (← c .before .degree-bound .ensures) at (start .pre .places)
+
 add-half : tie.Need-add-half
 add-half c = search needs
 
--- src/level.rt:50:9
 degree-bound-requires : tie.Need-degree-bound-requires
 degree-bound-requires c κs = search needs
 
--- src/level.rt:51:9
 excess-requires : tie.Need-excess-requires
 excess-requires c κs = search needs
 
--- src/level.rt:52:44
 add-t14 : tie.Need-add-t14
 add-t14 c = search needs
 
--- src/level.rt:53:30
 add-t14-2 : tie.Need-add-t14-2
 add-t14-2 c = search needs
 
--- src/level.rt:53:29
 mul-t15 : tie.Need-mul-t15
-mul-t15 c = search needs
+mul-t15 c = omega (arith, room (c))
 
--- src/level.rt:53:49
 sub-t16 : tie.Need-sub-t16
 sub-t16 c = search needs
 
--- src/level.rt:54:43
 mul-t14 : tie.Need-mul-t14
-mul-t14 c = search needs
+mul-t14 c = omega (arith, room (c .before))
 
--- src/level.rt:54:31
 add-t16 : tie.Need-add-t16
-add-t16 c = search needs
+add-t16 c = omega (arith, room (c .before .before))
 
--- src/level.rt:54:68
 add-t15 : tie.Need-add-t15
 add-t15 c = search needs
 
--- src/level.rt:55:44
 mul-t14-2 : tie.Need-mul-t14-2
-mul-t14-2 c = search needs
+mul-t14-2 c = omega (arith, room (c .before .before .before))
 
--- src/level.rt:55:30
 add-t15-2 : tie.Need-add-t15-2
-add-t15-2 c = search needs
+add-t15-2 c = omega (arith, room (c .before .before .before .before))
 
--- src/level.rt:55:71
 add-t16-2 : tie.Need-add-t16-2
+unfolding degreeBound
 add-t16-2 c = search needs
 
--- src/level.rt:56:29
 mul-rest : tie.Need-mul-rest
-mul-rest c = search needs
+mul-rest c = omega (arith, room (c .before .before .before .before .before))
 
--- src/level.rt:56:16
 add-rest : tie.Need-add-rest
-add-rest c = search needs
+add-rest c = omega (arith, room (c .before .before .before .before .before .before))
 
--- src/level.rt:57:35
 mul-t16 : tie.Need-mul-t16
-mul-t16 c = search needs
+mul-t16 c = omega (arith, room (c .before .before .before .before .before .before .before))
 
--- src/level.rt:57:28
 add-t14-3 : tie.Need-add-t14-3
-add-t14-3 c = search needs
+add-t14-3 c = omega (arith, room (c .before .before .before .before .before .before .before))
 
--- src/level.rt:57:64
 sub-t15 : tie.Need-sub-t15
 sub-t15 c = search needs
 
--- src/level.rt:58:39
 sub-t16-2 : tie.Need-sub-t16-2
 sub-t16-2 c = search needs
 
--- src/level.rt:45:1
 returns : tie.Need-returns
-returns c = search needs
+unfolding layoutOf ceilDiv
+returns c =
+    let called = c .before .before .before .before .before .before .before in
+    rw (called .excess .ensures, called .before .degree-bound .ensures)
 
 pub arrange-spec : {M : Type 1} → statement M
 arrange-spec =

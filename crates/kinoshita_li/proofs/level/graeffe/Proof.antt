@@ -1,35 +1,42 @@
+-- `kinoshita_li::level::graeffe` meets its contract. Assumes nothing.
 use borrow.Author.Needs.{needs}
 use native.Mathlib.Omega.{arith}
-use Prim.Native.Nat.{ℕ, _+_, _*_, _-_, _<_, _≤_, _%_}
-use lib.ListN.{length, getD, take, drop, set}
-use mathlib.Core.Path.{_≡_, refl, sym, ap, _∙_}
+use mathlib.Core.Logic.{inl}
+use mathlib.Core.Path.{ap}
+use Prim.Native.Nat.{_*_}
+use Rattle.kinoshita_li.specs.Graeffe.{graeffe-written}
 use Rattle.kinoshita_li.proofs.level.graeffe.Statement.{statement}
 use Rattle.kinoshita_li.proofs.level.graeffe.Tie as tie
-use Rattle.kinoshita_li.proofs.level.graeffe.Reads as reads
-use Rattle.kinoshita_li.proofs.level.graeffe.Lts as lts
-use Rattle.kinoshita_li.proofs.rows.even_part.Reads as even-part-reads
-use Rattle.kinoshita_li.proofs.rows.opposite.Reads as opposite-reads
-use Rattle.product.proofs.multiply_rows.Reads as multiply-rows-reads
 
--- src/level.rt:69:5
 opposite-requires : tie.Need-opposite-requires
-opposite-requires c κs = search needs
+opposite-requires c κs =
+    let start = c .before .before .before .before .before in
+    let same = ap (λ k. k * start .args .r) (start .pre .same) in
+    (start .pre .modulus, record { source = omega arith; target = omega arith; apart = inl (omega arith) })
 
--- src/level.rt:70:9
 multiply-rows-requires : tie.Need-multiply-rows-requires
-multiply-rows-requires c κs = search needs
+multiply-rows-requires c κs =
+    let start = c .before .before .before .before .before .before .before .before .before in
+    (record {
+      modulus = start .pre .modulus;
+      order = start .pre .order;
+      left = record { source = omega arith; target = omega arith; apart = inl (omega arith) };
+      right = record { source = omega arith; target = omega arith; apart = inl (omega arith) };
+    }, search needs)
 
--- src/level.rt:71:5
 even-part-requires : tie.Need-even-part-requires
-even-part-requires c κs = search needs
+even-part-requires c κs = record { source = omega arith; target = omega arith; apart = inl (omega arith) }
 
--- src/level.rt:62:1
 same-length : tie.Need-same-length
 same-length c = search needs
 
--- src/level.rt:62:1
 returns : tie.Need-returns
-returns c = search needs
+returns c =
+    let even = c .before .before in
+    let product = even .before .before .before .before in
+    let opposite = product .before .before .before .before in
+    rw (even .even-part .ensures, product .multiply-rows .ensures .written, product .multiply-rows .ensures .places, opposite .opposite .ensures)
+    (graeffe-written (opposite .before .before .before .before .before .before .pre))
 
 pub graeffe-spec : {M : Type 1} → statement M
 graeffe-spec =

@@ -1,47 +1,42 @@
+-- `kinoshita_li::level::last` meets its contract. Assumes nothing.
 use borrow.Author.Needs.{needs}
 use native.Mathlib.Omega.{arith}
-use Prim.Native.Nat.{ℕ, _+_, _*_, _-_, _<_, _≤_, _%_}
-use lib.ListN.{length, getD, take, drop, set}
-use mathlib.Core.Path.{_≡_, refl, sym, ap, _∙_}
+use Rattle.kinoshita_li.specs.Level.{last-level, last-room}
 use Rattle.kinoshita_li.proofs.level.last.Statement.{statement}
 use Rattle.kinoshita_li.proofs.level.last.Tie as tie
-use Rattle.kinoshita_li.proofs.level.last.Reads as reads
-use Rattle.kinoshita_li.proofs.level.last.Lts as lts
-use Rattle.buffer.proofs.move_down.Reads as move-down-reads
-use Rattle.kinoshita_li.proofs.division.divide.Reads as divide-reads
-use Rattle.kinoshita_li.proofs.division.numerator.Reads as numerator-reads
 
--- src/level.rt:52:13
 add-t : tie.Need-add-t
 add-t c = search needs
 
--- src/level.rt:53:5
 numerator-requires : tie.Need-numerator-requires
-numerator-requires c κs = search needs
+numerator-requires c κs = omega (arith, last-room (c .before .before .before .pre))
 
--- src/level.rt:54:5
 divide-requires : tie.Need-divide-requires
-divide-requires c κs = search needs
+divide-requires c κs =
+    let lent = c .before .before .before .before .before .before .before .pre in
+    (lent .modulus, omega (arith, lent .outer), omega (arith, last-room lent))
 
--- src/level.rt:55:26
 add-move-down : tie.Need-add-move-down
-add-move-down c = search needs
+add-move-down c = omega (arith, c .before .before .before .before .before .before .before .before .before .before .before .pre)
 
--- src/level.rt:55:36
 sub-move-down : tie.Need-sub-move-down
-sub-move-down c = search needs
+sub-move-down c = omega (arith, c .before .before .before .before .before .before .before .before .before .before .before .pre)
 
--- src/level.rt:55:5
 move-down-requires : tie.Need-move-down-requires
-move-down-requires c κs = search needs
+move-down-requires c κs =
+    let lent = c .before .before .before .before .before .before .before .before .before .before .before .pre in
+    (omega arith, omega (arith, last-room lent, lent .low))
 
--- src/level.rt:47:1
 same-length : tie.Need-same-length
 same-length c = search needs
 
--- src/level.rt:47:1
 returns : tie.Need-returns
-returns c = search needs
+returns c =
+    let moved = c .before .before in
+    let divided = moved .before .before .before .before in
+    let reversed = divided .before .before .before .before in
+    rw (moved .move-down .ensures)
+    (last-level (reversed .before .before .before .before .pre) (rw (reversed .numerator .ensures) at (divided .divide .ensures)))
 
 pub last-spec : {M : Type 1} → statement M
 last-spec =
