@@ -2,18 +2,19 @@
 --
 --   LevelLent    what `level` requires
 --   Levelled     its contract: the result of the levels stands behind Q, which is kept
---   last-room last-level     the last level, at order 1
---   level-bounded level-parts level-next   what the layout of a level, its two halves and the next level require
+--   order-1      at the last level the order is 1
+--   last-room last-level     the last level
+--   level-bounded level-parts level-next level-again   what the layout of a level, its first half, the next level and its second half require
 --   level-done   from what they ensure, what the level ensures
 -- Assumes nothing.
 use Prim.Native.Nat.{ℕ, zero, suc, _+_, _-_, _*_, _^_, _<_, _≤_}
-use native.Mathlib.Nat.{mul-add, mul-comm, mul-le-mul-right, mul-one, pow-suc}
+use native.Mathlib.Nat.{le-of-eq, mul-add, mul-comm, mul-le-mul-right, mul-one, pow-suc}
 use native.Mathlib.Numerals.{add-one}
 use native.Mathlib.Omega.{arith}
-use mathlib.Core.List.{List, _++_, reverse}
+use mathlib.Core.List.{List, _++_, append-nil, reverse}
 use mathlib.Core.Logic.{inl}
 use mathlib.Core.Path.{_≡_, refl, sym, ap, _∙_}
-use lib.ListN.{length, take, drop, length-drop, length-reverse}
+use lib.ListN.{length, take, drop, drop-of-length-le, length-drop, length-reverse}
 use lib.Seq.{sets, length-sets, take-all}
 use Rattle.algebra.specs.KinoshitaLiLists.{graeffe-list, levels-list}
 use Rattle.buffer.specs.Written.{length-part}
@@ -26,7 +27,7 @@ use Rattle.product.specs.declared.Rows.{Rows}
 use Rattle.route.specs.Within.{Within, within-rest, within-sets, within-trans, within-wider, segment-rest, segment-sets, segment-within}
 use Rattle.kinoshita_li.specs.Division.{Divided, length-quotient}
 use Rattle.kinoshita_li.specs.Exact.{planeAt-column}
-use Rattle.kinoshita_li.specs.Graeffe.{Expanded, Graeffe, Parts}
+use Rattle.kinoshita_li.specs.Graeffe.{Expanded, Graeffe, Parts, parts-length}
 use Rattle.kinoshita_li.specs.Layout.{Bounded, layoutOf}
 use Rattle.kinoshita_li.specs.Space.{levelPlaces, level-rows}
 use Rattle.kinoshita_li.specs.declared.level.Layout.{Layout}
@@ -47,6 +48,9 @@ pub record Levelled (p levels r q d : ℕ) (f before after : List ℕ) (result :
   pub within : Within ((q + 1) * r) (length before - (q + 1) * r) before after
   pub sum : result ≡ kinoshitaLiLevels levels (length f) r q d
   pub fits : result ≤ length before
+
+pub order-1 : {p levels r q d : ℕ} {f w : List ℕ} → LevelLent p levels r q d f w → levels ≡ 0 → r ≡ 1
+order-1 lent last = omega (arith, lent .positive, rw last at (lent .halvings))
 
 module _ {p q d : ℕ} {f w : List ℕ} (lent : LevelLent p 0 1 q d f w) where
   abbrev m : ℕ
@@ -116,9 +120,9 @@ module _ {p levels K r q d : ℕ} {f w : List ℕ} (lent : LevelLent p levels r 
   unfolding layoutOf
   level-room = omega (arith, level-work, level-rows K (length f) (s .half) (s .next) (s .low) half-small)
 
-  pub level-parts : Parts p r s w
+  parts : Parts p r s w
   unfolding layoutOf degreeBound
-  level-parts = record {
+  parts = record {
     modulus = lent .modulus;
     order = omega (arith, lent);
     half = refl;
@@ -143,9 +147,9 @@ module _ {p levels K r q d : ℕ} {f w : List ℕ} (lent : LevelLent p levels r 
     places = omega (arith, level-room);
   }
 
-  pub level-next : (v : List ℕ) → length v ≡ length w → LevelLent p K (s .half) (s .next) (s .low) f (drop (s .rest) v)
+  next : (v : List ℕ) → length v ≡ length w → LevelLent p K (s .half) (s .next) (s .low) f (drop (s .rest) v)
   unfolding layoutOf ceilDiv degreeBound
-  level-next v size = record {
+  next v size = record {
     modulus = lent .modulus;
     positive = omega (arith, lent);
     order = omega (arith, lent);
@@ -157,9 +161,8 @@ module _ {p levels K r q d : ℕ} {f w : List ℕ} (lent : LevelLent p levels r 
     work = rw (length-drop, size) (omega (arith, level-work));
   }
 
-  module _ {v rest z : List ℕ} {s₁ s₂ s₃ : ℕ} (down : Graeffe p r s w v s₁)
-      (below : Levelled p K (s .half) (s .next) (s .low) f (drop (s .rest) v) rest s₂)
-      (up : Expanded p r s (take (s .rest) v ++ rest) z s₃) where
+  module _ {v rest : List ℕ} {s₁ s₂ : ℕ} (down : Graeffe p r s w v s₁)
+      (below : Levelled p K (s .half) (s .next) (s .low) f (drop (s .rest) v) rest s₂) where
     abbrev Q : List ℕ
     Q = segment w 0 ((q + 1) * r)
 
@@ -189,9 +192,12 @@ module _ {p levels K r q d : ℕ} {f w : List ℕ} (lent : LevelLent p levels r 
         ∙ below .rows
         ∙ ap (levels-list p f K (s .half) (s .next) (s .low)) half-denominator)
 
-    pub level-done : Levelled p levels r q d f w z (s₁ + s₂ + s₃)
+    again : Parts p r s y
+    again = parts-length (behind .size ∙ size-v) parts
+
+    done : {z : List ℕ} {s₃ : ℕ} → Expanded p r s y z s₃ → Levelled p levels r q d f w z (s₁ + s₂ + s₃)
     unfolding layoutOf levels-list kinoshitaLiLevels
-    level-done = record {
+    done up = record {
       rows = up .rows ∙ rw (half-result, factor, deeper);
       within =
           within-trans (within-wider (omega arith) (omega (arith, level-work)) (down .within))
@@ -213,3 +219,31 @@ module _ {p levels K r q d : ℕ} {f w : List ℕ} (lent : LevelLent p levels r 
             mul-comm r (length f - d),
           );
     }
+
+-- the rest of a list from place k on, as it is lent, and come back as l
+rest-lent : (k : ℕ) (v : List ℕ) → segment v k (length v - k) ≡ drop k v
+rest-lent k v = take-all (length v - k) (drop k v) (le-of-eq (length-drop k v))
+
+rest-back : (k : ℕ) (v l : List ℕ) → take k v ++ (l ++ drop (length v - k) (drop k v)) ≡ take k v ++ l
+rest-back k v l = rw (drop-of-length-le (drop k v) (le-of-eq (length-drop k v)), append-nil)
+
+module _ {p levels K r q d : ℕ} {f w : List ℕ} {s : Layout} (lent : LevelLent p levels r q d f w) (deeper : levels ≡ suc K)
+    (placed : s ≡ layoutOf r q d (length f)) where
+  pub level-parts : Parts p r s w
+  level-parts = rw placed (parts lent deeper)
+
+  pub level-next : (v : List ℕ) → length v ≡ length w
+      → LevelLent p K (s .half) (s .next) (s .low) f (segment v (s .rest) (length v - s .rest))
+  level-next v size = rw (rest-lent, placed) (next lent deeper v size)
+
+  module _ {v rest : List ℕ} {s₁ s₂ : ℕ} (down : Graeffe p r s w v s₁)
+      (below : Levelled p K (s .half) (s .next) (s .low) f (segment v (s .rest) (length v - s .rest)) rest s₂) where
+    -- the list when the rest has come back
+    abbrev back : List ℕ
+    back = take (s .rest) v ++ (rest ++ drop (length v - s .rest) (drop (s .rest) v))
+
+    pub level-again : Parts p r s back
+    level-again = rw (rest-back, placed) (again lent deeper (rw placed at down) (rw (rest-lent, placed) at below))
+
+    pub level-done : {z : List ℕ} {s₃ : ℕ} → Expanded p r s back z s₃ → Levelled p levels r q d f w z (s₁ + s₂ + s₃)
+    level-done up = done lent deeper (rw placed at down) (rw (rest-lent, placed) at below) (rw (rest-back, placed) at up)

@@ -49,13 +49,39 @@ fn arrange(r: usize, q: usize, d: usize, m: usize) -> Layout
     let half = (r + 1) / 2;
     let next = degree_bound(m, q);
     let low = excess(d, q);
-    let denominator = Rows { at: 0, count: q + 1 };
-    let result = Rows { at: (q + 1) * r, count: m - d };
-    let opposite = Rows { at: result.at + result.count * r, count: q + 1 };
-    let product = Rows { at: opposite.at + opposite.count * r, count: next + 1 };
+    let denominator = Rows {
+        at: 0,
+        count: q + 1,
+    };
+    let result = Rows {
+        at: (q + 1) * r,
+        count: m - d,
+    };
+    let opposite = Rows {
+        at: result.at + result.count * r,
+        count: q + 1,
+    };
+    let product = Rows {
+        at: opposite.at + opposite.count * r,
+        count: next + 1,
+    };
     let rest = product.at + product.count * r;
-    let below = Rows { at: rest + product.count * half, count: m - low };
-    Layout { half, next, low, window: d - low, denominator, result, opposite, product, rest, below }
+    let below = Rows {
+        at: rest + product.count * half,
+        count: m - low,
+    };
+    Layout {
+        half,
+        next,
+        low,
+        window: d - low,
+        denominator,
+        result,
+        opposite,
+        product,
+        rest,
+        below,
+    }
 }
 
 // The denominator of the next level, at the start of the rest: the even part of Q(x, y) Q(-x, y).
@@ -82,7 +108,18 @@ fn expand(p: u32, r: usize, w: &mut [u32], s: Layout) -> u64
     let x = s.product;
     let t = s.result;
     rows::squared(s.half, r, w, u, x.at);
-    product::multiply_rows(p, r, w, Rows { at: x.at, count: u.count }, b, s.window, t)
+    product::multiply_rows(
+        p,
+        r,
+        w,
+        Rows {
+            at: x.at,
+            count: u.count,
+        },
+        b,
+        s.window,
+        t,
+    )
 }
 
 // The last level, at order 1: leaves the powers of y from d to m - 1 of P / Q(0, y) behind the Q in the first q + 1 places.

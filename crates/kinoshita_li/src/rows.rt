@@ -55,7 +55,11 @@ fn opposite_place(p: u32, w: &[u32], r: usize, a: Rows, j: usize, i: usize) -> u
     ensures { λ q. ⌜ q ≡ opposite p (held r (now (w .entry)) a) j i ⌝ }
 {
     let c = held_place(w, r, a, j, i);
-    if i % 2 == 0 { c } else { Field { modulus: p }.negative(c) }
+    if i % 2 == 0 {
+        c
+    } else {
+        Field { modulus: p }.negative(c)
+    }
 }
 
 // Writes a(-x, y) at t, for the a in rows of r places.
@@ -89,7 +93,11 @@ fn squared_place(w: &[u32], h: usize, a: Rows, j: usize, i: usize) -> u32
     requires { ⌜ a .at + a .count * h ≤ length (now w) ⌝ }
     ensures { λ q. ⌜ q ≡ squared (held h (now (w .entry)) a) j i ⌝ }
 {
-    if i % 2 == 0 { held_place(w, h, a, j, i / 2) } else { 0 }
+    if i % 2 == 0 {
+        held_place(w, h, a, j, i / 2)
+    } else {
+        0
+    }
 }
 
 // Writes a(x^2, y) at t in rows of r places, for the a in rows of h places.

@@ -11,13 +11,15 @@ squared-requires c κs = record { source = omega arith; target = omega arith; ap
 
 multiply-rows-requires : tie.Need-multiply-rows-requires
 multiply-rows-requires c κs =
-    let start = c .before .before .before .before .before .before .before .before .before .before in
-    (record {
-      modulus = start .pre .modulus;
-      order = start .pre .order;
-      left = record { source = omega arith; target = omega arith; apart = inr (omega arith) };
-      right = record { source = omega arith; target = omega arith; apart = inr (omega arith) };
-    }, start .pre .rows)
+    let start = c .before .before .before .before .before .before .before .before .before .before in (
+      record {
+        modulus = start .pre .modulus;
+        order = start .pre .order;
+        left = record { source = omega arith; target = omega arith; apart = inr (omega arith) };
+        right = record { source = omega arith; target = omega arith; apart = inr (omega arith) };
+      },
+      start .pre .rows,
+    )
 
 same-length : tie.Need-same-length
 same-length c = search needs

@@ -16,13 +16,15 @@ opposite-requires c κs =
 
 multiply-rows-requires : tie.Need-multiply-rows-requires
 multiply-rows-requires c κs =
-    let start = c .before .before .before .before .before .before .before .before .before in
-    (record {
-      modulus = start .pre .modulus;
-      order = start .pre .order;
-      left = record { source = omega arith; target = omega arith; apart = inl (omega arith) };
-      right = record { source = omega arith; target = omega arith; apart = inl (omega arith) };
-    }, search needs)
+    let start = c .before .before .before .before .before .before .before .before .before in (
+      record {
+        modulus = start .pre .modulus;
+        order = start .pre .order;
+        left = record { source = omega arith; target = omega arith; apart = inl (omega arith) };
+        right = record { source = omega arith; target = omega arith; apart = inl (omega arith) };
+      },
+      search needs,
+    )
 
 even-part-requires : tie.Need-even-part-requires
 even-part-requires c κs = record { source = omega arith; target = omega arith; apart = inl (omega arith) }
