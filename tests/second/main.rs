@@ -5,15 +5,9 @@
 mod checks;
 mod plain;
 
-use checks::support::Tally;
+use checks::support::{run, Check};
 use checks::{calls, chain, equality, job, primes, render, reversion, routes, settled, traps};
-use plain::random::Random;
-use std::panic::{catch_unwind, AssertUnwindSafe};
 use std::process::ExitCode;
-
-const DEFAULT_SEED: u64 = 1;
-
-type Check = fn(&mut Tally, &mut Random);
 
 const GROUPS: [(&str, Check); 24] = [
     ("settled examples", settled::examples),
@@ -43,23 +37,5 @@ const GROUPS: [(&str, Check); 24] = [
 ];
 
 fn main() -> ExitCode {
-    let argument = std::env::args().nth(1);
-    let Ok(seed) = argument.map_or(Ok(DEFAULT_SEED), |text| text.parse()) else {
-        eprintln!("the argument is a seed, a decimal number below 2^64");
-        return ExitCode::FAILURE;
-    };
-    let mut random = Random::new(seed);
-    let mut total = Tally::default();
-    println!("seed {seed}");
-    for (name, check) in GROUPS {
-        let mut tally = Tally::default();
-        if catch_unwind(AssertUnwindSafe(|| check(&mut tally, &mut random))).is_err() {
-            tally.failed += 1;
-        }
-        println!("{name}: {} comparisons", tally.passed + tally.failed);
-        total.passed += tally.passed;
-        total.failed += tally.failed;
-    }
-    println!("{} passed, {} failed", total.passed, total.failed);
-    ExitCode::from(u8::from(total.failed > 0))
+    run(&GROUPS)
 }

@@ -2,17 +2,18 @@
 --
 --   series-composed    the series of a composition is the value of f at the series of g, below n
 --   series-constant    the series of a list without constant term has none
+--   composed-constant  a list of at most one place is a constant
 --   composed-∷         Horner's rule: on which route 1 stands
 --   composed-++        the composition of an appended list, on which route 2 stands
 --   composed-agree     the composition depends on the inner list below n alone
 --   composed-assoc     composition is associative, where the innermost list has no constant term
 --   composed-equal     when two compositions with one inner list are equal (demand 3, for lists)
-use Prim.Native.Nat.{ℕ, zero, suc, _*_, _<_}
-use mathlib.Core.List.{List, _∷_, _++_}
+use Prim.Native.Nat.{ℕ, zero, suc, _*_, _%_, _<_, _≤_}
+use mathlib.Core.List.{List, [], _∷_, _++_}
 use mathlib.Core.Logic.{_↔_, _≢_, Iff·symm, Iff·trans}
-use mathlib.Core.Path.{_≡_, sym, ap, _∙_}
+use mathlib.Core.Path.{_≡_, refl, sym, ap, _∙_}
 use lib.ListN.{length}
-use native.Mathlib.Nat.{mod-eq-of-lt}
+use native.Mathlib.Nat.{mod-eq-of-lt, mul-one, mul-zero, zero-add, zero-mod}
 use native.Mathlib.Omega.{arith}
 use Rattle.algebra.specs.Agree.{Agree, Vanish, agree-refl, agree-sym, agree-trans, agree-⊞, agree-⊠}
 use Rattle.algebra.specs.Bridge.{
@@ -40,11 +41,24 @@ use Rattle.algebra.specs.Vanishing.{taylor-agreement}
 use Rattle.algebra.specs.Valuation.{valuation-positive, valuation-zero, valuation-nonzero}
 use Rattle.algebra.specs.Lists.{tabulate-cong, coefficient-tabulate, ceilDiv-below}
 use Rattle.algebra.specs.Fermat.{residues-domain}
-use Rattle.definition.specs.Lists.{coefficient, ceilDiv}
+use Rattle.definition.specs.Lists.{sum, tabulate, coefficient, ceilDiv}
 use Rattle.definition.specs.Prime.{Prime}
 use Rattle.definition.specs.Ranged.{cutPower, joined}
-use Rattle.definition.specs.Substitution.{composed, hornerStep}
+use Rattle.definition.specs.Substitution.{constant, composed, composedAt, hornerStep, substituted, substitutedTerm}
+use Rattle.definition.specs.Substitution as Plain
 use Rattle.definition.specs.Taylor.{shifted, valuation, leadingAt, leading}
+
+constant-at : (p : ℕ) (f g : List ℕ) → length f ≤ 1 → (k : ℕ) → constant (coefficient f 0 % p) k ≡ composedAt p f g k
+unfolding composedAt substituted substitutedTerm Plain.power constant coefficient sum
+constant-at p [] g h zero = refl
+constant-at p [] g h (suc k) = sym (zero-mod p)
+constant-at p (c ∷ []) g h zero = rw (zero-add, mul-one)
+constant-at p (c ∷ []) g h (suc k) = rw (mul-zero, zero-add) (sym (zero-mod p))
+constant-at p (c ∷ d ∷ f) g h k = absurd (omega arith)
+
+pub composed-constant : (p n : ℕ) (f g : List ℕ) → length f ≤ 1 → tabulate n (constant (coefficient f 0 % p)) ≡ composed p n f g
+unfolding composed
+composed-constant p n f g h = tabulate-cong n (constant (coefficient f 0 % p)) (composedAt p f g) (λ k b. constant-at p f g h k)
 
 module _ {p : ℕ} (l : 0 < p) where
   pub series-composed : (n : ℕ) (f g : List ℕ) → Agree n (series-of l (composed p n f g)) (value l f (series-of l g))

@@ -1,10 +1,11 @@
 // What the four routes share: lists put into the work buffer, the answer taken out of it, and the contract of a route (specs).
 ghost use mathlib.Core.Path.{_≡_};
-ghost use Prim.Native.Nat.{_+_, _≤_};
+ghost use Prim.Native.Nat.{_+_, _<_, _≤_};
 ghost use lib.ListN.{length};
 ghost use lib.Seq.{sets};
 ghost use Rattle.definition.specs.Lists.{coefficient, tabulate};
 ghost use Rattle.definition.specs.Refusal.{composeWork};
+ghost use Rattle.definition.specs.Substitution.{constant};
 ghost use Rattle.route.specs.Contract.{Finished};
 
 // Coefficient k of a list: 0 past its end.
@@ -24,6 +25,15 @@ pub fn put(l: &[u32], n: usize, w: &mut [u32], t: usize)
         w[t + k] = place(l, k);
         k += 1;
     }
+}
+
+// Writes the series c, c followed by zeros, into the n places of w from t on.
+pub fn put_constant(c: u32, n: usize, w: &mut [u32], t: usize)
+    requires { ⌜ (0 < n) × (t + n ≤ length (now w)) ⌝ }
+    ensures { λ _. ⌜ now (w .exit) ≡ sets (now (w .entry)) t (tabulate n (constant c)) ⌝ }
+{
+    buffer::clear_part(w, t, n);
+    w[t] = c;
 }
 
 // Writes the places of w from t on into `out`, and clears the first k places of w.

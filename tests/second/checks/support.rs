@@ -1,4 +1,4 @@
-//! What the checks share: the tally, cases drawn at random, all short lists, multiples of powers
+//! What the checks share: the tally, the run of all groups, cases drawn at random, all short lists, multiples of powers
 //! of (z - c), and calls with dirty buffers.
 
 use crate::plain::calls::{self, Answer};
@@ -6,7 +6,12 @@ use crate::plain::random::Random;
 use crate::plain::substitution::substitution;
 use crate::plain::{field, primes, products, refusals, weights};
 use std::fmt::Debug;
+use std::panic::{catch_unwind, AssertUnwindSafe};
+use std::process::ExitCode;
 use std::sync::LazyLock;
+
+/// The seed where none is given.
+const DEFAULT_SEED: u64 = 1;
 
 /// How many failures of a group are shown with their input.
 const SHOWN: u64 = 3;
@@ -29,6 +34,33 @@ impl Tally {
             println!("failed: {input:?}\n  found  {found:?}\n  wanted {wanted:?}");
         }
     }
+}
+
+/// A group of comparisons.
+pub type Check = fn(&mut Tally, &mut Random);
+
+/// Runs all groups, with the seed that is the first argument, and prints the count of comparisons.
+/// A group that panics counts as one failure.
+pub fn run(groups: &[(&str, Check)]) -> ExitCode {
+    let argument = std::env::args().nth(1);
+    let Ok(seed) = argument.map_or(Ok(DEFAULT_SEED), |text| text.parse()) else {
+        eprintln!("the argument is a seed, a decimal number below 2^64");
+        return ExitCode::FAILURE;
+    };
+    let mut random = Random::new(seed);
+    let mut total = Tally::default();
+    println!("seed {seed}");
+    for (name, check) in groups {
+        let mut tally = Tally::default();
+        if catch_unwind(AssertUnwindSafe(|| check(&mut tally, &mut random))).is_err() {
+            tally.failed += 1;
+        }
+        println!("{name}: {} comparisons", tally.passed + tally.failed);
+        total.passed += tally.passed;
+        total.failed += tally.failed;
+    }
+    println!("{} passed, {} failed", total.passed, total.failed);
+    ExitCode::from(u8::from(total.failed > 0))
 }
 
 /// The input of a composition.

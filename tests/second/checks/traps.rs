@@ -12,7 +12,7 @@ use crate::plain::{field, taylor};
 const CASES: usize = 200;
 
 /// Counts a comparison that the mistaken reading was seen to differ in some cases.
-fn seen(tally: &mut Tally, what: &str, cases: usize) {
+pub fn seen(tally: &mut Tally, what: &str, cases: usize) {
     tally.equal((what, cases, "cases"), cases > 0, true);
 }
 
@@ -83,7 +83,7 @@ pub fn order_rounded_down(tally: &mut Tally, random: &mut Random) {
 }
 
 /// The sum of g^j times part j of f, composed with g at this order and spread to x^p.
-fn joined_parts(case: &Case, order: usize) -> Vec<u32> {
+pub fn joined_parts(case: &Case, order: usize) -> Vec<u32> {
     let Case { p, n, f, g } = case;
     let mut total = vec![0; *n];
     let mut power = places(&[1], *n);
@@ -104,20 +104,25 @@ pub fn window_fixed(tally: &mut Tally, random: &mut Random) {
         let mut case = Case::draw(random, 8);
         let m = random.count(2, 9);
         case.f = random.list(case.p, m);
-        let Case { p, n, f, g } = &case;
-        let mirrored = mirror(*p, &places(g, *n));
-        let (mut quotient, mut deeper, mut before) = (vec![0; *n], vec![0; *n], vec![0; *n]);
-        for &coefficient in f.iter().rev() {
-            before = deeper;
-            quotient = sum(*p, &places(&[coefficient], *n), &product(*p, g, &quotient, *n).0);
-            deeper = sum(*p, &quotient, &product(*p, &mirrored, &before, *n).0);
-        }
+        let (deeper, needed) = one_level_down(&case);
         let (_, out) = compose(random, 4, &case);
-        let needed = product(*p, &mirrored, &before, *n).0;
-        tally.equal(&case, sum(*p, &out, &needed), deeper.clone());
+        tally.equal(&case, sum(case.p, &out, &needed), deeper.clone());
         different += usize::from(out != deeper);
     }
     seen(tally, "d fixed, answer different", different);
+}
+
+/// A_(m - 1), which is the answer where d is held fixed, and g(-x)·A_(m - 2), which it lacks.
+pub fn one_level_down(case: &Case) -> (Vec<u32>, Vec<u32>) {
+    let Case { p, n, f, g } = case;
+    let mirrored = mirror(*p, &places(g, *n));
+    let (mut quotient, mut deeper, mut before) = (vec![0; *n], vec![0; *n], vec![0; *n]);
+    for &coefficient in f.iter().rev() {
+        before = deeper;
+        quotient = sum(*p, &places(&[coefficient], *n), &product(*p, g, &quotient, *n).0);
+        deeper = sum(*p, &quotient, &product(*p, &mirrored, &before, *n).0);
+    }
+    (deeper, product(*p, &mirrored, &before, *n).0)
 }
 
 /// v is looked for from power 1. Were it 0 where g has a constant term, no coefficient of f in

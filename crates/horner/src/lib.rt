@@ -1,0 +1,55 @@
+// Route 1, Horner (document 004): from the top coefficient on, multiply by g and add the next.
+ghost use Prim.Native.Nat.{_-_, _<_};
+ghost use mathlib.Core.Path.{_≡_};
+ghost use lib.ListN.{length};
+ghost use Rattle.definition.specs.Weight.{hornerWeight};
+ghost use Rattle.horner.specs.Part.{Part, PartOperands};
+ghost use Rattle.horner.specs.Step.{Stepped};
+ghost use Rattle.product.specs.Single.{Operands};
+ghost use Rattle.route.specs.Contract.{Lent, Route};
+
+// The n places from t on become c + S G modulo p, cut to n places, where S and G are the n places from s and from b on.
+pub fn step(p: u32, n: usize, c: u32, w: &mut [u32], s: usize, b: usize, t: usize) -> u64
+    requires { ⌜ (0 < n) × Operands p n s b t (now w) ⌝ }
+    ensures { λ r. ⌜ Stepped p n c s b t (now (w .entry)) (now (w .exit)) r ⌝ }
+{
+    route::put_constant(c, n, w, t);
+    product::multiply_add(p, n, w, s, b, t)
+}
+
+// The place of a list's top coefficient; 0 for the empty list.
+fn top_place(f: &[u32]) -> usize
+    ensures { λ r. ⌜ r ≡ length (now (f .entry)) - 1 ⌝ }
+{
+    let m = f.len();
+    if m == 0 { 0 } else { m - 1 }
+}
+
+// The n places from t on become f(G) modulo p and x^n, where G are the n places from b on. The n places after them are used.
+pub fn horner_part(p: u32, n: usize, f: &[u32], w: &mut [u32], b: usize, t: usize) -> u64
+    requires { ⌜ PartOperands p n (now f) b t (now w) ⌝ }
+    ensures { λ r. ⌜ Part p n (now (f .entry)) b t (now (w .entry)) (now (w .exit)) r ⌝ }
+{
+    let mut i = top_place(f);
+    let c = route::place(f, i);
+    route::put_constant(c % p, n, w, t);
+    let mut weight: u64 = 0;
+    while 0 < i {
+        i -= 1;
+        weight += step(p, n, f[i], w, t, b, t + n);
+        buffer::move_down(w, t + n, t, n);
+    }
+    weight
+}
+
+// Route 1: f(g) modulo x^n.
+pub fn horner(p: u32, n: usize, f: &[u32], g: &[u32], out: &mut [u32], w: &mut [u32]) -> u64
+    requires { ⌜ Lent p n (length (now f)) (length (now out)) (length (now w)) ⌝ }
+    ensures { λ r. ⌜ Route p n (now (f .entry)) (now (g .entry)) (hornerWeight n (length (now (f .entry)))) (now (out .exit)) (now (w .entry)) (now (w .exit)) r ⌝ }
+{
+    let places = route::work_places(n, f.len());
+    route::put(g, n, w, 0);
+    let weight = horner_part(p, n, f, w, 0, n);
+    route::finish(w, n, out, places);
+    weight
+}
