@@ -7,6 +7,7 @@
 --   Layout     the parts of a level
 --   Graeffe    the two halves of a level
 --   Level      a level
+--   Whole      the route as a whole
 pub mod Steps
 pub mod Division
 pub mod Exact
@@ -14,3 +15,4 @@ pub mod Space
 pub mod Layout
 pub mod Graeffe
 pub mod Level
+pub mod Whole
