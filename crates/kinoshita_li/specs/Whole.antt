@@ -4,22 +4,22 @@
 --   Fraction          its contract
 --   first-level       what the first level requires
 --   fraction-done     the first level leaves f(g)
---   none-composed     an empty outer list
---   front-within      the first k places were lent, and came back as l
+--   none-done         the route for an empty outer list
+--   places-inside rows-inside fraction-lent some-done   the route for any other
 -- Assumes nothing.
 use Prim.Native.Nat.{ℕ, _+_, _-_, _*_, _<_, _≤_, min}
-use native.Mathlib.Nat.{one-mul, zero-add, zero-mod}
+use native.Mathlib.Nat.{le-of-eq, le-refl, mul-le-mul-right, one-mul, zero-add, zero-mod}
 use native.Mathlib.Numerals.{add-one}
 use native.Mathlib.Omega.{arith}
 use mathlib.Core.List.{List, _++_}
-use borrow.Author.Tests.{ne-eqb}
-use mathlib.Core.Path.{_≡_, refl, _∙_}
-use lib.ListN.{length, drop, length-append, length-drop}
-use lib.Seq.{sets, drop-at}
+use borrow.Author.Tests.{eq-eqb, ne-eqb}
+use mathlib.Core.Path.{_≡_, refl, sym, _∙_}
+use lib.ListN.{length, take, drop, length-append, length-drop}
+use lib.Seq.{sets, drop-append-le, drop-at, length-take-le, take-append-le}
 use Rattle.algebra.specs.Composition.{composed-constant}
 use Rattle.algebra.specs.Halvings.{halvings-covers}
 use Rattle.algebra.specs.KinoshitaLiLists.{levels-list-composed}
-use Rattle.algebra.specs.Lists.{coefficient-beyond}
+use Rattle.algebra.specs.Lists.{coefficient-beyond, length-tabulate}
 use Rattle.algebra.specs.Rows.{length-plane}
 use Rattle.definition.specs.KinoshitaLi.{denominator, plane}
 use Rattle.definition.specs.Lists.{tabulate}
@@ -27,7 +27,9 @@ use Rattle.definition.specs.Refusal.{composeWork}
 use Rattle.definition.specs.Substitution.{composed, constant}
 use Rattle.definition.specs.Weight.{halvings, kinoshitaLiWeight}
 use Rattle.product.specs.Segments.{segment}
-use Rattle.route.specs.Within.{Within, segment-sets}
+use Rattle.route.specs.Contract.{Finished, Lent, Route, lent-places, route-finished}
+use Rattle.route.specs.Table.{written-table}
+use Rattle.route.specs.Within.{Within, segment-sets, within-sets}
 use Rattle.kinoshita_li.specs.Level.{LevelLent, Levelled}
 use Rattle.kinoshita_li.specs.Space.{level-places, level-rows}
 
@@ -78,12 +80,57 @@ module _ {p n q : ℕ} {f w : List ℕ} (lent : FractionLent p n q f w) where
       Q : List ℕ
       Q = plane n (q + 1) (denominator p g)
 
-pub none-composed : (p n : ℕ) (f g : List ℕ) → length f ≡ 0 → tabulate n (constant 0) ≡ composed p n f g
-none-composed p n f g e = rw (coefficient-beyond f 0 (omega arith), zero-mod) at (composed-constant p n f g (omega arith))
+module _ {p n : ℕ} (f g out w : List ℕ) {places : ℕ} (lent : Lent p n (length f) (length out) (length w))
+    (counted : places ≡ composeWork n (length f)) where
+  pub none-done : {v after out′ : List ℕ} → length f ≡ 0 → v ≡ sets w 0 (tabulate n (constant 0)) → Finished 0 places v after out out′
+      → Route p n f g (kinoshitaLiWeight n (length f)) out′ w after 0
+  unfolding kinoshitaLiWeight composeWork
+  none-done empty put done =
+      route-finished
+      (rw put (within-sets w 0 (tabulate n (constant 0)) (le-refl 0) (rw length-tabulate (omega arith))))
+      (rw put (written-table w 0 (constant 0) n (omega (arith, lent-places lent))) ∙ zeros)
+      (rw (eq-eqb (length f) 0 empty))
+      (lent .output)
+      (rw counted at done)
+    where
+      zeros : tabulate n (constant 0) ≡ composed p n f g
+      zeros = rw (coefficient-beyond f 0 (omega arith), zero-mod) at (composed-constant p n f g (omega arith))
 
-pub front-within : (k : ℕ) (w l : List ℕ) → k ≤ length w → length l ≡ k → Within 0 k w (l ++ drop k w)
-front-within k w l fits size = record {
-  size = rw (length-append, size, length-drop) (omega arith);
-  early = refl;
-  late = rw zero-add (drop-at l (drop k w) k size);
-}
+  pub places-inside : places ≤ length w
+  places-inside = rw counted (lent .enough)
+
+  module _ {q : ℕ} (some : 0 < length f) (first : q ≡ min 1 (length f - 1)) where
+    -- the rows of Q and the result lie in the places lent
+    pub rows-inside : (q + 1) * n + n ≤ places
+    unfolding composeWork
+    rows-inside = omega (arith, counted, mul-le-mul-right {m = q + 1} {n = 2} n (omega arith))
+
+    pub fraction-lent : FractionLent p n q f (take places w)
+    fraction-lent = record {
+      modulus = lent .modulus;
+      positive = lent .positive;
+      order = lent .order;
+      some = some;
+      outer = lent .outer;
+      first = first;
+      work = le-of-eq (sym counted ∙ sym (length-take-le places w places-inside));
+    }
+
+    -- l is what the places lent came back as
+    pub some-done : {l after out′ : List ℕ} {result : ℕ} → length l ≡ places → Fraction p n q f g l result
+        → Finished ((q + 1) * n) places (l ++ drop places w) after out out′
+        → Route p n f g (kinoshitaLiWeight n (length f)) out′ w after result
+    some-done {l} size fraction done =
+        route-finished (rw counted at within) (rw counted at (kept ∙ fraction .value)) (fraction .sum) (lent .output) (rw counted at done)
+      where
+        within : Within 0 places w (l ++ drop places w)
+        within = record {
+          size = rw (length-append, size, length-drop) (omega (arith, places-inside));
+          early = refl;
+          late = rw zero-add (drop-at l (drop places w) places size);
+        }
+
+        kept : segment (l ++ drop places w) ((q + 1) * n) n ≡ segment l ((q + 1) * n) n
+        kept =
+            rw (drop-append-le ((q + 1) * n) l (drop places w) (omega (arith, rows-inside)))
+            (take-append-le n (drop ((q + 1) * n) l) (drop places w) (rw (length-drop, size) (omega (arith, rows-inside))))

@@ -1,81 +1,113 @@
+-- `kinoshita_li::kinoshita_li` meets its contract. Assumes nothing.
 use borrow.Author.Needs.{needs}
 use native.Mathlib.Omega.{arith}
-use Prim.Native.Nat.{ℕ, _+_, _*_, _-_, _<_, _≤_, _%_}
-use lib.ListN.{length, getD, take, drop, set}
-use mathlib.Core.Path.{_≡_, refl, sym, ap, _∙_}
+use Prim.Native.Nat.{_+_, _*_, _-_, _<_, _≤_, min}
+use lib.ListN.{length}
+use lib.Seq.{length-front, length-take-le}
+use mathlib.Core.Path.{_≡_, sym, _∙_}
+use Rattle.definition.specs.Refusal.{composeWork}
+use Rattle.route.specs.Contract.{lent-places}
+use Rattle.kinoshita_li.specs.Whole.{fraction-lent, none-done, places-inside, rows-inside, some-done}
 use Rattle.kinoshita_li.proofs.kinoshita_li.Statement.{statement}
 use Rattle.kinoshita_li.proofs.kinoshita_li.Tie as tie
-use Rattle.kinoshita_li.proofs.kinoshita_li.Reads as reads
-use Rattle.kinoshita_li.proofs.kinoshita_li.Lts as lts
-use Rattle.kinoshita_li.proofs.first_bound.Reads as first-bound-reads
-use Rattle.kinoshita_li.proofs.fraction.Reads as fraction-reads
-use Rattle.route.proofs.finish.Reads as finish-reads
-use Rattle.route.proofs.put_constant.Reads as put-constant-reads
-use Rattle.route.proofs.work_places.Reads as work-places-reads
 
--- src/lib.rt:46:9
 work-places-requires : tie.Need-work-places-requires
-work-places-requires c κs = search needs
+work-places-requires c κs = (c .before .before .before .before .pre .order, c .before .before .before .before .pre .outer)
 
--- src/lib.rt:48:9
 put-constant-requires : tie.Need-put-constant-requires
-put-constant-requires c κs = search needs
+put-constant-requires c κs =
+    let lent = c .before .before .before .before .before .before .before .pre in
+    (lent .positive, omega (arith, lent-places lent))
 
--- src/lib.rt:49:9
 finish-requires : tie.Need-finish-requires
-finish-requires c κs = search needs
+finish-requires c κs =
+    let put = c .before .before .before .before in
+    let places = put .before .before .before in
+    let lent = places .before .before .before .before .before .pre in (
+      omega (arith, lent-places lent, lent .output, put .put-constant .kept),
+      omega (arith, lent .enough, places .work-places .ensures, put .put-constant .kept),
+    )
 
--- src/lib.rt:50:9
 same-length : tie.Need-same-length
 same-length c = search needs
 
--- src/lib.rt:50:9
 same-length-2 : tie.Need-same-length-2
 same-length-2 c = search needs
 
--- src/lib.rt:50:9
 returns : tie.Need-returns
-returns c = search needs
+returns c =
+    let finished = c .before .before .before .before in
+    let put = finished .before .before .before .before .before in
+    let test = put .before .before in
+    let places = test .before in
+    let start = places .before .before .before .before .before in
+    none-done (start .args .f .now) (start .args .g .now) (start .args .out .now) (start .args .w .now) (start .pre)
+    (places .work-places .ensures) (test .if1 .taken) (put .put-constant .ensures) (finished .finish .ensures)
 
--- src/lib.rt:52:9
 first-bound-requires : tie.Need-first-bound-requires
-first-bound-requires c κs = search needs
+first-bound-requires c κs = omega arith
 
--- src/lib.rt:53:42
+-- an outer list that is not empty
+module _ (c : tie.After-first-bound) where
+  abbrev counted : tie.After-work-places
+  counted = c .before .before
+
+  abbrev start : tie.Start
+  start = counted .before .before .before .before .before
+
+  some : 0 < length (start .args .f .now)
+  some = omega arith
+
+  enough : counted .work-places .result ≤ length (start .args .w .now)
+  enough = places-inside (start .args .f .now) (start .args .g .now) (start .args .out .now) (start .args .w .now) (start .pre) (counted .work-places .ensures)
+
+  inside : (c .first-bound .result + 1) * start .args .n + start .args .n ≤ counted .work-places .result
+  inside =
+      rows-inside (start .args .f .now) (start .args .g .now) (start .args .out .now) (start .args .w .now) (start .pre)
+      (counted .work-places .ensures) some (c .first-bound .ensures)
+
 slice-relend-prefix-fraction : tie.Need-slice-relend-prefix-fraction
-slice-relend-prefix-fraction c = search needs
+slice-relend-prefix-fraction c = enough c
 
--- src/lib.rt:53:42
 slice-aggregate-fraction : tie.Need-slice-aggregate-fraction
-slice-aggregate-fraction c = search needs
+slice-aggregate-fraction c = sym (length-take-le _ _ (enough (c .before)))
 
--- src/lib.rt:53:9
 fraction-requires : tie.Need-fraction-requires
-fraction-requires c κs = search needs
+fraction-requires c κs =
+    let bound = c .before in
+    let args = start bound .args in
+    fraction-lent (args .f .now) (args .g .now) (args .out .now) (args .w .now) (start bound .pre) (counted bound .work-places .ensures)
+    (some bound) (bound .first-bound .ensures)
 
--- src/lib.rt:54:23
 add-finish : tie.Need-add-finish
-add-finish c = search needs
+add-finish c = omega (arith, c .before .before .before .before .before .first-bound .ensures)
 
--- src/lib.rt:54:22
 mul-finish : tie.Need-mul-finish
-mul-finish c = search needs
+mul-finish c =
+    let bound = c .before .before .before .before .before in
+    omega (arith, inside bound, enough bound, start bound .good)
 
--- src/lib.rt:54:5
 finish-requires-2 : tie.Need-finish-requires-2
-finish-requires-2 c κs = search needs
+finish-requires-2 c κs =
+    let called = c .before .before .before .before in
+    let bound = called .before .before in
+    let size = length-front (start bound .args .w .now) (called .fraction .last .1 .1 .1 .1 .1 .0) (counted bound .work-places .result) (called .fraction .kept .1 .1 .1 .1 .1 .0) in
+    (omega (arith, size, inside bound, enough bound, start bound .pre .output), omega (arith, size, enough bound))
 
--- src/lib.rt:41:1
 same-length-3 : tie.Need-same-length-3
 same-length-3 c = search needs
 
--- src/lib.rt:41:1
 same-length-4 : tie.Need-same-length-4
 same-length-4 c = search needs
 
--- src/lib.rt:41:1
 returns-2 : tie.Need-returns-2
-returns-2 c = search needs
+returns-2 c =
+    let finished = c .before .before .before .before in
+    let called = finished .before .before .before .before .before in
+    let bound = called .before .before in
+    let args = start bound .args in
+    some-done (args .f .now) (args .g .now) (args .out .now) (args .w .now) (start bound .pre) (counted bound .work-places .ensures)
+    (some bound) (bound .first-bound .ensures) (called .fraction .kept .1 .1 .1 .1 .1 .0 ∙ length-take-le _ _ (enough bound)) (called .fraction .ensures) (finished .finish2 .ensures)
 
 pub kinoshita-li-spec : {M : Type 1} → statement M
 kinoshita-li-spec =
