@@ -32,9 +32,8 @@ pub record Parts (p r : ℕ) (s : Layout) (w : List ℕ) : Type 0 where
   pub half : s .half ≡ ceilDiv r 2
   pub rows : s .window + s .result .count < 2 ^ 64
   pub degree : s .product .count < 2 ^ 64
-  pub same : s .opposite .count ≡ s .denominator .count
   pub few : s .below .count * r ≤ s .product .count * r
-  pub denominator : s .denominator .at + s .denominator .count * r ≤ s .result .at
+  pub denominator : s .opposite .count * r ≤ s .result .at
   pub result : s .result .at + s .result .count * r ≤ s .opposite .at
   pub opposite : s .opposite .at + s .opposite .count * r ≤ s .product .at
   pub product : s .product .at + s .product .count * r ≤ s .rest
@@ -48,7 +47,6 @@ parts-length e o = record {
   half = o .half;
   rows = o .rows;
   degree = o .degree;
-  same = o .same;
   few = o .few;
   denominator = o .denominator;
   result = o .result;
@@ -62,10 +60,14 @@ parts-length e o = record {
 abbrev evenProduct : ℕ → (ℕ → ℕ → ℕ) → ℕ → ℕ → ℕ
 evenProduct p a = evenPart (cutProduct2At p a (opposite p a))
 
+-- where Q stands
+abbrev pub denominatorRows : Layout → Rows
+denominatorRows s = record { at = 0; count = s .opposite .count }
+
 pub record Graeffe (p r : ℕ) (s : Layout) (before after : List ℕ) (result : ℕ) : Type 0 where
-  pub opposed : held r after (s .opposite) ≡ opposite p (held r before (s .denominator))
+  pub opposed : held r after (s .opposite) ≡ opposite p (held r before (denominatorRows s))
   pub even : segment after (s .rest) (s .product .count * s .half)
-      ≡ plane (s .half) (s .product .count) (evenProduct p (held r before (s .denominator)))
+      ≡ plane (s .half) (s .product .count) (evenProduct p (held r before (denominatorRows s)))
   pub within : Within (s .opposite .at) (length before - s .opposite .at) before after
   pub sum : result ≡ r * s .product .count
 
@@ -78,7 +80,7 @@ pub record Expanded (p r : ℕ) (s : Layout) (before after : List ℕ) (result :
 
 module _ {p r : ℕ} {s : Layout} {w : List ℕ} (parts : Parts p r s w) where
   abbrev a : Rows
-  a = s .denominator
+  a = denominatorRows s
 
   abbrev b : Rows
   b = s .opposite
@@ -108,7 +110,7 @@ module _ {p r : ℕ} {s : Layout} {w : List ℕ} (parts : Parts p r s w) where
   w₃ = sets w₂ (s .rest) E
 
   size-O : length O ≡ b .count * r
-  size-O = length-plane r (a .count) (opposite p Q) ∙ rw (parts .same)
+  size-O = length-plane r (a .count) (opposite p Q)
 
   size-X : length X ≡ x .count * r
   size-X = length-plane r (x .count) (window 0 (productOf p r a b w₁))

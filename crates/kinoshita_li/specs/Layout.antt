@@ -20,7 +20,6 @@ layoutOf r q d m =
       next = next;
       low = low;
       window = d - low;
-      denominator = record { at = 0; count = q + 1 };
       result = record { at = (q + 1) * r; count = m - d };
       opposite = record { at = (q + 1) * r + (m - d) * r; count = q + 1 };
       product = record { at = product; count = next + 1 };

@@ -128,7 +128,6 @@ module _ {p levels K r q d : ℕ} {f w : List ℕ} (lent : LevelLent p levels r 
     half = refl;
     rows = omega (arith, lent);
     degree = omega (arith, lent);
-    same = refl;
     few = mul-le-mul-right r few;
     denominator = omega arith;
     result = omega arith;

@@ -24,7 +24,8 @@ fn excess(a: usize, b: usize) -> usize
     if a < b { 0 } else { a - b }
 }
 
-// The parts of a level, one after the other: Q, the result, Q(-x, y), the rows of a product, and the rest, lent to the next level.
+// The parts of a level. One after the other stand Q, from place 0 on, the result, Q(-x, y) in as many rows as Q, the rows of a product, and
+// the rest, lent to the next level.
 pub struct Layout {
     // ⌈r/2⌉, and q and d one level down
     pub half: usize,
@@ -32,7 +33,6 @@ pub struct Layout {
     pub low: usize,
     // the first power of y that is kept of the second product
     pub window: usize,
-    pub denominator: Rows,
     pub result: Rows,
     pub opposite: Rows,
     pub product: Rows,
@@ -49,38 +49,36 @@ fn arrange(r: usize, q: usize, d: usize, m: usize) -> Layout
     let half = (r + 1) / 2;
     let next = degree_bound(m, q);
     let low = excess(d, q);
-    let denominator = Rows {
-        at: 0,
-        count: q + 1,
-    };
-    let result = Rows {
-        at: (q + 1) * r,
-        count: m - d,
-    };
-    let opposite = Rows {
-        at: result.at + result.count * r,
-        count: q + 1,
-    };
-    let product = Rows {
-        at: opposite.at + opposite.count * r,
-        count: next + 1,
-    };
-    let rest = product.at + product.count * r;
-    let below = Rows {
-        at: rest + product.count * half,
-        count: m - low,
-    };
+    let count = q + 1;
+    let next_count = next + 1;
+    let kept = m - d;
+    let result = count * r;
+    let opposite = result + kept * r;
+    let product = opposite + count * r;
+    let rest = product + next_count * r;
+    let below = rest + next_count * half;
     Layout {
         half,
         next,
         low,
         window: d - low,
-        denominator,
-        result,
-        opposite,
-        product,
+        result: Rows {
+            at: result,
+            count: kept,
+        },
+        opposite: Rows {
+            at: opposite,
+            count,
+        },
+        product: Rows {
+            at: product,
+            count: next_count,
+        },
         rest,
-        below,
+        below: Rows {
+            at: below,
+            count: m - low,
+        },
     }
 }
 
@@ -89,9 +87,12 @@ fn graeffe(p: u32, r: usize, w: &mut [u32], s: Layout) -> u64
     requires { ⌜ Parts p r s (now w) ⌝ }
     ensures { λ q. ⌜ Graeffe p r s (now (w .entry)) (now (w .exit)) q ⌝ }
 {
-    let a = s.denominator;
     let b = s.opposite;
     let x = s.product;
+    let a = Rows {
+        at: 0,
+        count: b.count,
+    };
     rows::opposite(p, r, w, a, b.at);
     let places = product::multiply_rows(p, r, w, a, b, 0, x);
     rows::even_part(r, s.half, w, x, s.rest);

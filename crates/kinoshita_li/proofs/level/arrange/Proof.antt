@@ -12,8 +12,10 @@ module _ (c : tie.After-excess) where
   abbrev start : tie.Start
   start = c .before .before
 
-  room : (start .args .q + 1) * start .args .r + (start .args .m - start .args .d) * start .args .r + (start .args .q + 1) * start .args .r
-      + (c .before .degree-bound .result + 1) * start .args .r + (c .before .degree-bound .result + 1) * ((start .args .r + 1) / 2)
+  -- the last part begins below 2^64
+  room : (start .args .q + 1) * start .args .r + (start .args .m - start .args .d) * start .args .r
+      + (start .args .q + 1) * start .args .r + (c .before .degree-bound .result + 1) * start .args .r
+      + (c .before .degree-bound .result + 1) * ((start .args .r + 1) / 2)
       < 2 ^ 64
   unfolding layoutOf ceilDiv
   room = rw (← c .before .degree-bound .ensures) at (start .pre .places)
@@ -27,60 +29,52 @@ degree-bound-requires c κs = search needs
 excess-requires : tie.Need-excess-requires
 excess-requires c κs = search needs
 
-add-t14 : tie.Need-add-t14
-add-t14 c = search needs
+add-count : tie.Need-add-count
+add-count c = search needs
 
-add-t14-2 : tie.Need-add-t14-2
-add-t14-2 c = search needs
+add-next-count : tie.Need-add-next-count
+unfolding degreeBound
+add-next-count c = omega arith
 
-mul-t15 : tie.Need-mul-t15
-mul-t15 c = omega (arith, room (c))
+sub-kept : tie.Need-sub-kept
+sub-kept c = search needs
+
+mul-result : tie.Need-mul-result
+mul-result c = omega (arith, room c)
+
+mul-opposite : tie.Need-mul-opposite
+mul-opposite c = omega (arith, room c)
+
+add-opposite : tie.Need-add-opposite
+add-opposite c = omega (arith, room c)
+
+mul-product : tie.Need-mul-product
+mul-product c = omega (arith, room c)
+
+add-product : tie.Need-add-product
+add-product c = omega (arith, room c)
+
+mul-rest : tie.Need-mul-rest
+mul-rest c = omega (arith, room c)
+
+add-rest : tie.Need-add-rest
+add-rest c = omega (arith, room c)
+
+mul-below : tie.Need-mul-below
+mul-below c = omega (arith, room c)
+
+add-below : tie.Need-add-below
+add-below c = omega (arith, room c)
 
 sub-t16 : tie.Need-sub-t16
 sub-t16 c = search needs
 
-mul-t14 : tie.Need-mul-t14
-mul-t14 c = omega (arith, room (c .before))
-
-add-t16 : tie.Need-add-t16
-add-t16 c = omega (arith, room (c .before .before))
-
-add-t15 : tie.Need-add-t15
-add-t15 c = search needs
-
-mul-t14-2 : tie.Need-mul-t14-2
-mul-t14-2 c = omega (arith, room (c .before .before .before))
-
-add-t15-2 : tie.Need-add-t15-2
-add-t15-2 c = omega (arith, room (c .before .before .before .before))
-
-add-t16-2 : tie.Need-add-t16-2
-unfolding degreeBound
-add-t16-2 c = search needs
-
-mul-rest : tie.Need-mul-rest
-mul-rest c = omega (arith, room (c .before .before .before .before .before))
-
-add-rest : tie.Need-add-rest
-add-rest c = omega (arith, room (c .before .before .before .before .before .before))
-
-mul-t16 : tie.Need-mul-t16
-mul-t16 c = omega (arith, room (c .before .before .before .before .before .before .before))
-
-add-t14-3 : tie.Need-add-t14-3
-add-t14-3 c = omega (arith, room (c .before .before .before .before .before .before .before))
-
-sub-t15 : tie.Need-sub-t15
-sub-t15 c = search needs
-
-sub-t16-2 : tie.Need-sub-t16-2
-sub-t16-2 c = search needs
+sub-t20 : tie.Need-sub-t20
+sub-t20 c = search needs
 
 returns : tie.Need-returns
 unfolding layoutOf ceilDiv
-returns c =
-    let called = c .before .before .before .before .before .before .before in
-    rw (called .excess .ensures, called .before .degree-bound .ensures)
+returns c = rw (c .excess .ensures, c .before .degree-bound .ensures)
 
 pub arrange-spec : {M : Type 1} → statement M
 arrange-spec =
@@ -89,20 +83,18 @@ arrange-spec =
     add-half
     degree-bound-requires
     excess-requires
-    add-t14
-    add-t14-2
-    mul-t15
-    sub-t16
-    mul-t14
-    add-t16
-    add-t15
-    mul-t14-2
-    add-t15-2
-    add-t16-2
+    add-count
+    add-next-count
+    sub-kept
+    mul-result
+    mul-opposite
+    add-opposite
+    mul-product
+    add-product
     mul-rest
     add-rest
-    mul-t16
-    add-t14-3
-    sub-t15
-    sub-t16-2
+    mul-below
+    add-below
+    sub-t16
+    sub-t20
     returns)

@@ -2,21 +2,18 @@
 use borrow.Author.Needs.{needs}
 use native.Mathlib.Omega.{arith}
 use mathlib.Core.Logic.{inl}
-use mathlib.Core.Path.{ap}
-use Prim.Native.Nat.{_*_}
 use Rattle.kinoshita_li.specs.Graeffe.{graeffe-written}
 use Rattle.kinoshita_li.proofs.level.graeffe.Statement.{statement}
 use Rattle.kinoshita_li.proofs.level.graeffe.Tie as tie
 
 opposite-requires : tie.Need-opposite-requires
 opposite-requires c κs =
-    let start = c .before .before .before .before .before in
-    let same = ap (λ k. k * start .args .r) (start .pre .same) in
+    let start = c .before .before .before .before in
     (start .pre .modulus, record { source = omega arith; target = omega arith; apart = inl (omega arith) })
 
 multiply-rows-requires : tie.Need-multiply-rows-requires
 multiply-rows-requires c κs =
-    let start = c .before .before .before .before .before .before .before .before .before in (
+    let start = c .before .before .before .before .before .before .before .before in (
       record {
         modulus = start .pre .modulus;
         order = start .pre .order;
@@ -38,7 +35,7 @@ returns c =
     let product = even .before .before .before .before in
     let opposite = product .before .before .before .before in
     rw (even .even-part .ensures, product .multiply-rows .ensures .written, product .multiply-rows .ensures .places, opposite .opposite .ensures)
-    (graeffe-written (opposite .before .before .before .before .before .before .pre))
+    (graeffe-written (opposite .before .before .before .before .before .pre))
 
 pub graeffe-spec : {M : Type 1} → statement M
 graeffe-spec =
