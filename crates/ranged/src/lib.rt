@@ -54,12 +54,7 @@ fn rounds(m: usize, b: usize) -> usize
     requires { ⌜ (m ≤ 4096) × (0 < b) × (b ≤ 64) ⌝ }
     ensures { λ r. ⌜ r ≡ halvings (ceilDiv m b) ⌝ }
 {
-    let blocks = (m + (b - 1)) / b;
-    if blocks <= 1 {
-        0
-    } else {
-        64 - usize::leading_zeros(blocks - 1) as usize
-    }
+    number::halvings(number::rounded_up(m, b))
 }
 
 // 2^level
@@ -75,8 +70,7 @@ fn block_place(b: usize, j: usize, m: usize) -> usize
     requires { ⌜ b * j < 2 ^ 64 ⌝ }
     ensures { λ r. ⌜ r ≡ min (b * j) m ⌝ }
 {
-    let place = b * j;
-    if m < place { m } else { place }
+    number::smaller(b * j, m)
 }
 
 // The n places from t on become f's block j at G modulo p and x^n, by Horner, where G are the first n places. The n places after them are used.
