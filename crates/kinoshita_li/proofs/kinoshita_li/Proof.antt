@@ -1,0 +1,131 @@
+-- `kinoshita_li::kinoshita_li` meets its contract. Assumes nothing.
+use borrow.Author.Needs.{needs}
+use native.Mathlib.Omega.{arith}
+use Prim.Native.Nat.{_+_, _*_, _-_, _<_, _≤_, min}
+use lib.ListN.{length}
+use lib.Seq.{length-front, length-take-le}
+use mathlib.Core.Path.{_≡_, sym, _∙_}
+use Rattle.definition.specs.Refusal.{composeWork}
+use Rattle.route.specs.Contract.{lent-places}
+use Rattle.kinoshita_li.specs.Whole.{fraction-lent, none-done, places-inside, rows-inside, some-done}
+use Rattle.kinoshita_li.proofs.kinoshita_li.Statement.{statement}
+use Rattle.kinoshita_li.proofs.kinoshita_li.Tie as tie
+
+work-places-requires : tie.Need-work-places-requires
+work-places-requires c κs = (c .before .before .before .before .pre .order, c .before .before .before .before .pre .outer)
+
+put-constant-requires : tie.Need-put-constant-requires
+put-constant-requires c κs =
+    let lent = c .before .before .before .before .before .before .before .pre in
+    (lent .positive, omega (arith, lent-places lent))
+
+finish-requires : tie.Need-finish-requires
+finish-requires c κs =
+    let put = c .before .before .before .before in
+    let places = put .before .before .before in
+    let lent = places .before .before .before .before .before .pre in (
+      omega (arith, lent-places lent, lent .output, put .put-constant .kept),
+      omega (arith, lent .enough, places .work-places .ensures, put .put-constant .kept),
+    )
+
+same-length : tie.Need-same-length
+same-length c = search needs
+
+same-length-2 : tie.Need-same-length-2
+same-length-2 c = search needs
+
+returns : tie.Need-returns
+returns c =
+    let finished = c .before .before .before .before in
+    let put = finished .before .before .before .before .before in
+    let test = put .before .before in
+    let places = test .before in
+    let start = places .before .before .before .before .before in
+    none-done (start .args .f .now) (start .args .g .now) (start .args .out .now) (start .args .w .now) (start .pre)
+    (places .work-places .ensures) (test .if1 .taken) (put .put-constant .ensures) (finished .finish .ensures)
+
+first-bound-requires : tie.Need-first-bound-requires
+first-bound-requires c κs = omega arith
+
+-- an outer list that is not empty
+module _ (c : tie.After-first-bound) where
+  abbrev counted : tie.After-work-places
+  counted = c .before .before
+
+  abbrev start : tie.Start
+  start = counted .before .before .before .before .before
+
+  some : 0 < length (start .args .f .now)
+  some = omega arith
+
+  enough : counted .work-places .result ≤ length (start .args .w .now)
+  enough = places-inside (start .args .f .now) (start .args .g .now) (start .args .out .now) (start .args .w .now) (start .pre) (counted .work-places .ensures)
+
+  inside : (c .first-bound .result + 1) * start .args .n + start .args .n ≤ counted .work-places .result
+  inside =
+      rows-inside (start .args .f .now) (start .args .g .now) (start .args .out .now) (start .args .w .now) (start .pre)
+      (counted .work-places .ensures) some (c .first-bound .ensures)
+
+slice-relend-prefix-fraction : tie.Need-slice-relend-prefix-fraction
+slice-relend-prefix-fraction c = enough c
+
+slice-aggregate-fraction : tie.Need-slice-aggregate-fraction
+slice-aggregate-fraction c = sym (length-take-le _ _ (enough (c .before)))
+
+fraction-requires : tie.Need-fraction-requires
+fraction-requires c κs =
+    let bound = c .before in
+    let args = start bound .args in
+    fraction-lent (args .f .now) (args .g .now) (args .out .now) (args .w .now) (start bound .pre) (counted bound .work-places .ensures)
+    (some bound) (bound .first-bound .ensures)
+
+add-finish : tie.Need-add-finish
+add-finish c = omega (arith, c .before .before .before .before .before .first-bound .ensures)
+
+mul-finish : tie.Need-mul-finish
+mul-finish c =
+    let bound = c .before .before .before .before .before in
+    omega (arith, inside bound, enough bound, start bound .good)
+
+finish-requires-2 : tie.Need-finish-requires-2
+finish-requires-2 c κs =
+    let called = c .before .before .before .before in
+    let bound = called .before .before in
+    let size = length-front (start bound .args .w .now) (called .fraction .last .1 .1 .1 .1 .1 .0) (counted bound .work-places .result) (called .fraction .kept .1 .1 .1 .1 .1 .0) in
+    (omega (arith, size, inside bound, enough bound, start bound .pre .output), omega (arith, size, enough bound))
+
+same-length-3 : tie.Need-same-length-3
+same-length-3 c = search needs
+
+same-length-4 : tie.Need-same-length-4
+same-length-4 c = search needs
+
+returns-2 : tie.Need-returns-2
+returns-2 c =
+    let finished = c .before .before .before .before in
+    let called = finished .before .before .before .before .before in
+    let bound = called .before .before in
+    let args = start bound .args in
+    some-done (args .f .now) (args .g .now) (args .out .now) (args .w .now) (start bound .pre) (counted bound .work-places .ensures)
+    (some bound) (bound .first-bound .ensures) (called .fraction .kept .1 .1 .1 .1 .1 .0 ∙ length-take-le _ _ (enough bound)) (called .fraction .ensures) (finished .finish2 .ensures)
+
+pub kinoshita-li-spec : {M : Type 1} → statement M
+kinoshita-li-spec =
+    tie.close
+    (tie.spec
+    work-places-requires
+    put-constant-requires
+    finish-requires
+    same-length
+    same-length-2
+    returns
+    first-bound-requires
+    slice-relend-prefix-fraction
+    slice-aggregate-fraction
+    fraction-requires
+    add-finish
+    mul-finish
+    finish-requires-2
+    same-length-3
+    same-length-4
+    returns-2)

@@ -1,0 +1,52 @@
+-- `kinoshita_li::level::last` meets its contract. Assumes nothing.
+use borrow.Author.Needs.{needs}
+use native.Mathlib.Omega.{arith}
+use Rattle.kinoshita_li.specs.Level.{last-level, last-room}
+use Rattle.kinoshita_li.proofs.level.last.Statement.{statement}
+use Rattle.kinoshita_li.proofs.level.last.Tie as tie
+
+add-t : tie.Need-add-t
+add-t c = search needs
+
+numerator-requires : tie.Need-numerator-requires
+numerator-requires c κs = omega (arith, last-room (c .before .before .before .pre))
+
+divide-requires : tie.Need-divide-requires
+divide-requires c κs =
+    let lent = c .before .before .before .before .before .before .before .pre in
+    (lent .modulus, omega (arith, lent .outer), omega (arith, last-room lent))
+
+add-move-down : tie.Need-add-move-down
+add-move-down c = omega (arith, c .before .before .before .before .before .before .before .before .before .before .before .pre)
+
+sub-move-down : tie.Need-sub-move-down
+sub-move-down c = omega (arith, c .before .before .before .before .before .before .before .before .before .before .before .pre)
+
+move-down-requires : tie.Need-move-down-requires
+move-down-requires c κs =
+    let lent = c .before .before .before .before .before .before .before .before .before .before .before .pre in
+    (omega arith, omega (arith, last-room lent, lent .low))
+
+same-length : tie.Need-same-length
+same-length c = search needs
+
+returns : tie.Need-returns
+returns c =
+    let moved = c .before .before in
+    let divided = moved .before .before .before .before in
+    let reversed = divided .before .before .before .before in
+    rw (moved .move-down .ensures)
+    (last-level (reversed .before .before .before .before .pre) (rw (reversed .numerator .ensures) at (divided .divide .ensures)))
+
+pub last-spec : {M : Type 1} → statement M
+last-spec =
+    tie.close
+    (tie.spec
+    add-t
+    numerator-requires
+    divide-requires
+    add-move-down
+    sub-move-down
+    move-down-requires
+    same-length
+    returns)

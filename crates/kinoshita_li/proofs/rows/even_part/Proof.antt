@@ -1,0 +1,92 @@
+-- `kinoshita_li::rows::even_part` meets its contract: after k turns the first k places are written. Assumes nothing.
+use borrow.Author.Needs.{needs}
+use native.Mathlib.Omega.{arith}
+use Prim.Native.Nat.{_*_, _-_, _≤_}
+use native.Mathlib.Nat.{mod-le}
+use lib.ListN.{length}
+use mathlib.Core.Path.{_≡_, _∙_}
+use Rattle.definition.specs.KinoshitaLi.{evenPart, planePlace}
+use Rattle.product.specs.Planes.{held}
+use Rattle.kinoshita_li.specs.Steps.{planeFirst, plane-first, plane-next, plane-last, row-positive, source-kept}
+use Rattle.kinoshita_li.proofs.rows.even_part.Statement.{statement}
+use Rattle.kinoshita_li.proofs.rows.even_part.Tie as tie
+
+abbrev Inv-loop : tie.InvT-loop
+Inv-loop r h w₀ a t places k₀ w k = (k ≤ a .count * h) × (length w ≡ length w₀) × (w ≡ planeFirst h (evenPart (held r w₀ a)) w₀ t k)
+
+abbrev μ-loop : tie.MeasureT-loop
+μ-loop r h w₀ a t places k₀ w k = a .count * h - k
+
+mul-places : tie.Need-mul-places Inv-loop μ-loop
+mul-places c = search needs
+
+loop-holds : tie.Need-loop-holds Inv-loop μ-loop
+loop-holds c = (search needs, search needs, plane-first _ _ _ _)
+
+div-held-place : tie.Need-div-held-place Inv-loop μ-loop
+div-held-place c = omega (arith, row-positive _ _ _ (c .before .loop-test .taken))
+
+rem-held-place : tie.Need-rem-held-place Inv-loop μ-loop
+rem-held-place c = omega (arith, row-positive _ _ _ (c .before .loop-test .taken))
+
+mul-held-place : tie.Need-mul-held-place Inv-loop μ-loop
+mul-held-place c = omega (arith, mod-le (c .before .before .loop .k) (c .before .before .before .before .before .args .h))
+
+held-place-requires : tie.Need-held-place-requires Inv-loop μ-loop
+held-place-requires c κs = search needs
+
+add-w : tie.Need-add-w Inv-loop μ-loop
+add-w c = search needs
+
+mul-w : tie.Need-mul-w Inv-loop μ-loop
+mul-w c = search needs
+
+slice-write-w : tie.Need-slice-write-w Inv-loop μ-loop
+slice-write-w c = search needs
+
+add-k : tie.Need-add-k Inv-loop μ-loop
+add-k c = search needs
+
+loop-less : tie.Need-loop-less Inv-loop μ-loop
+loop-less c = search needs
+
+loop-again : tie.Need-loop-again Inv-loop μ-loop
+unfolding evenPart
+loop-again c =
+    let at = c .before .before .before in
+    let args = at .before .before .before .args in (
+      search needs,
+      search needs,
+      rw (c .held-place .ensures, at .loop .inv .2, source-kept (args .r) (args .w .now) (args .a) (at .before .before .before .pre) (planePlace (args .h) (evenPart (held (args .r) (args .w .now) (args .a)))) (at .loop .k) (omega arith)) (plane-next (args .h) (evenPart (held (args .r) (args .w .now) (args .a))) (args .w .now) (args .t) (at .loop .k)),
+    )
+
+same-length : tie.Need-same-length Inv-loop μ-loop
+same-length c = search needs
+
+returns : tie.Need-returns Inv-loop μ-loop
+returns c =
+    let at = c .before in
+    let args = at .before .before .before .args in
+    let all : at .loop .k ≡ args .a .count * args .h = omega arith in
+    at .loop .inv .2 ∙ rw all (plane-last _ _ _ _ _)
+
+pub even-part-spec : {M : Type 1} → statement M
+even-part-spec =
+    tie.close
+    (tie.spec
+    Inv-loop
+    μ-loop
+    mul-places
+    loop-holds
+    div-held-place
+    rem-held-place
+    mul-held-place
+    held-place-requires
+    add-w
+    mul-w
+    slice-write-w
+    add-k
+    loop-less
+    loop-again
+    same-length
+    returns)
