@@ -1,9 +1,9 @@
 -- The weight of route 3, by levels, for p above 1.
 --
 --   weightOfPart p n m j   the weight of part j of m places
---   weight-low      at most one place: no product
---   weight-parts    the q - 1 products of the join, and the weights of the parts
---   weight-small    the weight of orders and counts up to 4096 fits 64 bits
+--   weight-low             at most one place: no product
+--   weight-parts           the q - 1 products of the join, and the weights of the parts
+--   weight-small           the weight of orders and counts up to 4096 fits 64 bits
 -- Assumes nothing.
 use Prim.Native.Nat.{ℕ, zero, suc, _+_, _*_, _-_, _^_, _<_, _≤_, min}
 use native.Mathlib.Decide.{decLe}
