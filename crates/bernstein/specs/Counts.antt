@@ -13,7 +13,7 @@ use mathlib.Core.Bool.{cond}
 use mathlib.Core.Path.{_≡_, sym, _∙_}
 use borrow.Author.Tests.{lt-ltb, le-ltb}
 use lib.Dec.{ltb}
-use Rattle.algebra.specs.Lists.{ceilDiv-below, ceilDiv-covers, sum-cong, sum-naturals, sum-beyond}
+use Rattle.algebra.specs.Lists.{ceilDiv-below, ceilDiv-covers, sum-naturals, sum-beyond}
 use Rattle.algebra.specs.Parts.{partCount-below}
 use Rattle.algebra.specs.Semiring.{naturals}
 use Rattle.algebra.specs.Sum as Sum

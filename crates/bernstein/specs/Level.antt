@@ -5,7 +5,6 @@
 --   Room              what a level requires
 --   Level             what a level ensures
 --   Parted            the contract of `part`
---   Prepared          the contract of `prepare`: h stands at the beginning of the rest, and g and f are as they were
 --   PartReady         what `part_value` requires: h stands at the beginning of the rest
 --   PartValue         what `part_value` ensures
 --   Joined            the contract of `join`
@@ -20,7 +19,7 @@ use mathlib.Core.List.{List}
 use lib.ListN.{length}
 use lib.Seq.{sets}
 use Rattle.algebra.specs.Lists.{length-tabulate, tabulate-coefficient}
-use Rattle.bernstein.specs.Split.{partValue}
+use Rattle.bernstein.specs.Split.{composedPart}
 use Rattle.bernstein.specs.Weights.{weight-low}
 use Rattle.definition.specs.Bernstein.{part, partCount, pthPowers, spreadList}
 use Rattle.definition.specs.Lists.{ceilDiv, coefficient, tabulate}
@@ -54,12 +53,6 @@ pub record Parted (p j a m t : ℕ) (before after : List ℕ) (result : ℕ) : T
   pub written : after ≡ sets before t (part p j (segment before a m))
   pub count : result ≡ partCount p j m
 
-pub record Prepared (p n m : ℕ) (before now : List ℕ) : Type 0 where
-  pub room : Room p n m before
-  pub several : 1 < m
-  pub within : Within (n + m) (5 * (n + m)) before now
-  pub powers : segment now (restAt n m) (ceilDiv n p) ≡ pthPowers p (segment before 0 (ceilDiv n p))
-
 pub record PartReady (p n m j : ℕ) (w : List ℕ) : Type 0 where
   pub room : Room p n m w
   pub several : 1 < m
@@ -69,7 +62,7 @@ pub record PartReady (p n m j : ℕ) (w : List ℕ) : Type 0 where
 pub record PartValue (p n m j : ℕ) (before after : List ℕ) (result : ℕ) : Type 0 where
   pub within : Within (nextAt n m) (4 * n + 5 * m) before after
   pub powers : segment after (restAt n m) (ceilDiv n p) ≡ segment before (restAt n m) (ceilDiv n p)
-  pub next : segment after (nextAt n m) n ≡ spreadList p n (partValue p n (segment before n m) (segment before 0 n) j)
+  pub next : segment after (nextAt n m) n ≡ spreadList p n (composedPart p n (segment before n m) (segment before 0 n) j)
   pub sum : result ≡ bernsteinWeight p (ceilDiv n p) (partCount p j m)
 
 pub record Joined (p n m : ℕ) (before after : List ℕ) (result : ℕ) : Type 0 where

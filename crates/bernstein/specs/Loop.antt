@@ -2,7 +2,8 @@
 --
 --   remaining p n m j   the weight that is still to come: a product for each part below j, and their own weights
 --   room-powers         where h is written
---   prepared-first      h stands at the beginning of the rest, after it was written
+--   Prepared            h stands at the beginning of the rest
+--   prepared-first      after it was written
 --   prepared-ready      the value of a part can be computed
 --   PartsJoined         what holds when part j is joined, of the list at the beginning, the list now and the weight so far
 --   parts-first         after the top part
@@ -23,8 +24,8 @@ use lib.Seq.{sets}
 use Rattle.algebra.specs.Lists.{length-tabulate}
 use Rattle.bernstein.specs.Counts.{ceilDiv-half}
 use Rattle.bernstein.specs.Join.{room-length, moved-within, moved-value}
-use Rattle.bernstein.specs.Level.{Joined, Level, PartReady, PartValue, Prepared, Room, nextAt, restAt}
-use Rattle.bernstein.specs.Split.{partValue, joinedFrom, joined-top, joined-next, joined-all}
+use Rattle.bernstein.specs.Level.{Joined, Level, PartReady, PartValue, Room, nextAt, restAt}
+use Rattle.bernstein.specs.Split.{composedPart, joinedFrom, joined-top, joined-next, joined-all}
 use Rattle.bernstein.specs.Weights.{weightOfPart, weight-parts, weight-small}
 use Rattle.buffer.specs.Written.{length-part}
 use Rattle.definition.specs.Bernstein.{pthPowers, pthPowerAt, spreadList}
@@ -49,33 +50,38 @@ remaining-none : (p n m : ℕ) → remaining p n m 0 ≡ 0
 unfolding sum
 remaining-none p n m = omega arith
 
-module _ {p n m order : ℕ} {before : List ℕ} (room : Room p n m before) (rounded : order ≡ ceilDiv n p) where
-  half-order : 2 * order ≤ n + 1
-  half-order = rw rounded (ceilDiv-half (room .prime .above-one) n)
+-- h stands at the beginning of the rest, and g and f are as they were
+pub record Prepared (p n m : ℕ) (before now : List ℕ) : Type 0 where
+  pub room : Room p n m before
+  pub several : 1 < m
+  pub within : Within (n + m) (5 * (n + m)) before now
+  pub powers : segment now (restAt n m) (ceilDiv n p) ≡ pthPowers p (segment before 0 (ceilDiv n p))
 
-  pub room-powers : Apart before 0 order (restAt n m) order
-  room-powers = record { source = omega (arith, half-order); target = omega (arith, half-order); apart = inl (omega (arith, half-order)) }
+module _ {p n m : ℕ} {before : List ℕ} (room : Room p n m before) where
+  half : 2 * ceilDiv n p ≤ n + 1
+  half = ceilDiv-half (room .prime .above-one) n
+
+  pub room-powers : Apart before 0 (ceilDiv n p) (restAt n m) (ceilDiv n p)
+  room-powers = record { source = omega (arith, half); target = omega (arith, half); apart = inl (omega (arith, half)) }
 
   abbrev h : List ℕ
-  h = pthPowers p (segment before 0 order)
+  h = pthPowers p (segment before 0 (ceilDiv n p))
 
-  length-powers : length h ≡ order
+  length-powers : length h ≡ ceilDiv n p
   unfolding pthPowers
   length-powers =
-      length-tabulate (length (segment before 0 order)) (pthPowerAt p (segment before 0 order)) ∙ length-part before 0 order (room-powers .source)
+      let g = segment before 0 (ceilDiv n p) in
+      length-tabulate (length g) (pthPowerAt p g) ∙ length-part before 0 (ceilDiv n p) (room-powers .source)
 
   pub prepared-first : {now : List ℕ} → 1 < m → now ≡ sets before (restAt n m) h → Prepared p n m before now
   prepared-first several written = record {
     room = room;
     several = several;
-    within = rw written (within-sets before (restAt n m) h (omega arith) (omega (arith, length-powers, half-order)));
-    powers = rw (← rounded, written) (segment-sets before (restAt n m) h order length-powers (room-powers .target));
+    within = rw written (within-sets before (restAt n m) h (omega arith) (omega (arith, length-powers, half)));
+    powers = rw written (segment-sets before (restAt n m) h (ceilDiv n p) length-powers (room-powers .target));
   }
 
 module _ {p n m : ℕ} {before now : List ℕ} (prepared : Prepared p n m before now) where
-  half : 2 * ceilDiv n p ≤ n + 1
-  half = ceilDiv-half (prepared .room .prime .above-one) n
-
   kept : (a k : ℕ) → a + k ≤ n + m → segment now a k ≡ segment before a k
   kept a k b = segment-within (prepared .within) a k (inl b)
 
@@ -84,7 +90,7 @@ module _ {p n m : ℕ} {before now : List ℕ} (prepared : Prepared p n m before
     room = room-length (prepared .within .size) (prepared .room);
     several = prepared .several;
     index = b;
-    powers = prepared .powers ∙ ap (pthPowers p) (sym (kept 0 (ceilDiv n p) (omega (arith, half))));
+    powers = prepared .powers ∙ ap (pthPowers p) (sym (kept 0 (ceilDiv n p) (omega (arith, half (prepared .room)))));
   }
 
   pub level-rebased : {after : List ℕ} {weight : ℕ} → Level p n m now after weight → Level p n m before after weight
@@ -112,7 +118,7 @@ module _ {p n m : ℕ} {before now : List ℕ} (prepared : Prepared p n m before
       powers = part .powers ∙ prepared .powers;
     }
 
-    prepared-next : segment after (nextAt n m) n ≡ spreadList p n (partValue p n (segment before n m) (segment before 0 n) j)
+    prepared-next : segment after (nextAt n m) n ≡ spreadList p n (composedPart p n (segment before n m) (segment before 0 n) j)
     prepared-next = part .next ∙ rw (kept n m (omega arith), kept 0 n (omega arith))
 
 pub record PartsJoined (p n m : ℕ) (before : List ℕ) (j : ℕ) (now : List ℕ) (weight : ℕ) : Type 0 where
@@ -126,9 +132,9 @@ length-outer {p} {n} {m} {before} room = length-part before n m (omega arith)
 
 pub parts-first : {p n m j : ℕ} {before now then after : List ℕ} {weight : ℕ} → Prepared p n m before now → j ≡ min p m - 1
     → PartValue p n m j now then weight → after ≡ sets then (n + m) (segment then (nextAt n m) n) → PartsJoined p n m before j after weight
-parts-first {p} {n} {m} {j} {before} prepared top part moved =
+parts-first {p} {n} {m} {j} {before} {then = then} prepared top part moved =
     let next = prepared-part prepared part in
-    let room = room-length (next .within .size) (next .room) in
+    let room : Room p n m then = room-length (next .within .size) (next .room) in
     let above = prepared .room .prime .above-one in
     let last : suc j ≡ min p m = omega (arith, prepared .several) in
     record {

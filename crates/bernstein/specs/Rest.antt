@@ -1,11 +1,11 @@
 -- The value of a part, on the lists that the work buffer holds: the part is written behind h in the rest, the rest is lent to the next level, and
 -- the value is spread into the place of the next part's value.
 --
---   room-rest     the rest has room for the next level
---   room-part     where the part is written
---   rest-fits     the next level ends inside the places of this one
---   fewer         the part has fewer places than f
---   room-spread   where the value is spread
+--   room-part            where the part is written
+--   rest-fits            the next level ends inside the places of this one
+--   fewer                the part has fewer places than f
+--   room-rest            the rest has room for the next level
+--   room-spread          where the value is spread
 --   part-value-written   what `part_value` ensures, from what its steps do
 -- Assumes nothing.
 use Prim.Native.Nat.{ℕ, _+_, _*_, _-_, _<_, _≤_}
@@ -19,7 +19,7 @@ use lib.Seq.{sets, drop-drop, take-all}
 use Rattle.algebra.specs.Lists.{length-tabulate}
 use Rattle.bernstein.specs.Counts.{ceilDiv-half, ceilDiv-positive, partCount-half}
 use Rattle.bernstein.specs.Level.{Level, Parted, PartReady, PartValue, Room, nextAt, restAt}
-use Rattle.bernstein.specs.Split.{partValue}
+use Rattle.bernstein.specs.Split.{composedPart}
 use Rattle.buffer.specs.Written.{length-part}
 use Rattle.definition.specs.Bernstein.{part, partAt, partCount, pthPowers, spread, spreadList}
 use Rattle.definition.specs.Lists.{ceilDiv, coefficient}
@@ -110,7 +110,7 @@ module _ {p n m j order : ℕ} {w : List ℕ} (ready : PartReady p n m j w) (rou
         apart = inr (omega arith);
       }
 
-      value : segment back (restAt n m + order + count) order ≡ partValue p n f (segment w 0 n) j
+      value : segment back (restAt n m + order + count) order ≡ composedPart p n f (segment w 0 n) j
       value =
           rw (back-all, add-assoc) (segment-rest (restAt n m) v rest (order + count) order (omega (arith, part-within .size)))
           ∙ below .value

@@ -1,11 +1,11 @@
 -- Route 3 on lists, for a prime p: f(g) modulo x^n from the values of the parts of f at order ⌈n/p⌉.
 --
---   pthPowers-reduced   h holds the remainders of g's coefficients, by Fermat
---   partValue p n f g j the value of part j at order ⌈n/p⌉, with h from the first ⌈n/p⌉ places of g
---   joinedFrom          the parts from j on, joined by Horner's rule in g
---   joined-top          of the top part nothing is joined
---   joined-next         the join of one part more
---   joined-all          with all parts joined this is f(g)
+--   composedPart p n f g j   part j, composed at order ⌈n/p⌉ with h of the first ⌈n/p⌉ places of g
+--   pthPowers-reduced        h holds the remainders of g's coefficients, by Fermat
+--   joinedFrom P n f g j     the parts from j on, joined by Horner's rule in g
+--   joined-top               of the top part nothing is joined
+--   joined-next              the join of one part more
+--   joined-all               with all parts joined this is f(g)
 -- Assumes nothing.
 use Prim.Native.Nat.{ℕ, suc, _+_, _-_, _%_, _<_, min}
 use native.Mathlib.Decide.{decLt}
@@ -47,8 +47,8 @@ use Rattle.definition.specs.Prime.{Prime}
 use Rattle.definition.specs.Ranged.{joined}
 use Rattle.definition.specs.Substitution.{composed, composedAt, substituted}
 
-abbrev pub partValue : ℕ → ℕ → List ℕ → List ℕ → ℕ → List ℕ
-partValue p n f g j = composed p (ceilDiv n p) (part p j f) (pthPowers p (take (ceilDiv n p) g))
+abbrev pub composedPart : ℕ → ℕ → List ℕ → List ℕ → ℕ → List ℕ
+composedPart p n f g j = composed p (ceilDiv n p) (part p j f) (pthPowers p (take (ceilDiv n p) g))
 
 module _ {p : ℕ} (P : Prime p) where
   positive : 0 < p
@@ -91,11 +91,11 @@ module _ {p : ℕ} (P : Prime p) where
     abbrev term : ℕ → Series (Residue p)
     term j = spread (residues positive) p (value positive (part p j f) inner)
 
-    spread-part : (j : ℕ) → spreadList p n (partValue p n f g j) ≡ listed n (term j)
+    spread-part : (j : ℕ) → spreadList p n (composedPart p n f g j) ≡ listed n (term j)
     spread-part j =
         let order = ceilDiv n p in
         let h = pthPowers p (take order g) in
-        spreadList-listed positive p n (partValue p n f g j) (composed-below order (part p j f) h)
+        spreadList-listed positive p n (composedPart p n f g j) (composed-below order (part p j f) h)
         ∙ listed-agree
         (spread-agree (residues positive) p positive
         (agree-trans (series-composed positive order (part p j f) h)
@@ -117,13 +117,13 @@ module _ {p : ℕ} (P : Prime p) where
     pub joinedFrom : ℕ → List ℕ
     joinedFrom j = listed n (terms j (min p (length f) - j))
 
-    pub joined-top : (j : ℕ) → suc j ≡ min p (length f) → spreadList p n (partValue p n f g j) ≡ joinedFrom j
+    pub joined-top : (j : ℕ) → suc j ≡ min p (length f) → spreadList p n (composedPart p n f g j) ≡ joinedFrom j
     unfolding joinedFrom
     joined-top j e =
         let one : min p (length f) - j ≡ 1 = omega arith in
         spread-part j ∙ rw one (ap (listed n) (sym (terms-1 j)))
 
-    pub joined-next : (j : ℕ) → j < min p (length f) → joined p n (spreadList p n (partValue p n f g j)) (joinedFrom (suc j)) g ≡ joinedFrom j
+    pub joined-next : (j : ℕ) → j < min p (length f) → joined p n (spreadList p n (composedPart p n f g j)) (joinedFrom (suc j)) g ≡ joinedFrom j
     unfolding joinedFrom
     joined-next j b =
         let more : min p (length f) - j ≡ suc (min p (length f) - suc j) = omega arith in
@@ -138,4 +138,5 @@ module _ {p : ℕ} (P : Prime p) where
         rw (composed-listed positive n f g)
         (ap (listed n)
         (simp (sub-zero, zero-add) (sym
-        (bernstein (residues positive) (reduction positive) positive (residues-power-spread positive P) f inner (min p (length f)) (min-le-left p (length f)) (le-refl _)))))
+        (bernstein (residues positive) (reduction positive) positive (residues-power-spread positive P)
+        f inner (min p (length f)) (min-le-left p (length f)) (le-refl _)))))

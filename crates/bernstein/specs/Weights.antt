@@ -1,8 +1,9 @@
 -- The weight of route 3, by levels, for p above 1.
 --
---   weight-low      at most one place: no product
---   weight-parts    the q - 1 products of the join, and the weights of the parts
---   weight-small    the weight of orders and counts up to 4096 fits 64 bits
+--   weightOfPart p n m j   the weight of part j of m places
+--   weight-low             at most one place: no product
+--   weight-parts           the q - 1 products of the join, and the weights of the parts
+--   weight-small           the weight of orders and counts up to 4096 fits 64 bits
 -- Assumes nothing.
 use Prim.Native.Nat.{ℕ, zero, suc, _+_, _*_, _-_, _^_, _<_, _≤_, min}
 use native.Mathlib.Decide.{decLe}
@@ -41,7 +42,6 @@ pub weight-low : (p n m : ℕ) → m ≤ 1 → bernsteinWeight p n m ≡ 0
 unfolding bernsteinWeight
 weight-low p n m h = levels-low m p n m h
 
--- the weight of part j of m places
 abbrev pub weightOfPart : ℕ → ℕ → ℕ → ℕ → ℕ
 weightOfPart p n m j = bernsteinWeight p (ceilDiv n p) (partCount p j m)
 

@@ -13,7 +13,7 @@ ghost use Rattle.definition.specs.Substitution.{composed};
 ghost use Rattle.definition.specs.Weight.{bernsteinWeight};
 ghost use Rattle.product.specs.Segments.{segment, Apart};
 ghost use Rattle.route.specs.Contract.{Lent, Route};
-ghost use Rattle.bernstein.specs.Level.{Joined, Level, PartReady, PartValue, Parted, Prepared, Room};
+ghost use Rattle.bernstein.specs.Level.{Joined, Level, PartReady, PartValue, Parted, Room, restAt};
 
 // a / b, rounded up.
 fn rounded_up(a: usize, b: usize) -> usize
@@ -93,10 +93,10 @@ fn constant(p: u32, n: usize, m: usize, w: &mut [u32])
     route::put_constant(c % p, n, w, end);
 }
 
-// Writes h at the beginning of the rest.
+// Writes h, the p-th powers of the first ⌈n/p⌉ places of g, at the beginning of the rest.
 fn prepare(p: u32, n: usize, m: usize, w: &mut [u32])
-    requires { ⌜ Room p n m (now w) × (1 < m) ⌝ }
-    ensures { λ _. ⌜ Prepared p n m (now (w .entry)) (now (w .exit)) ⌝ }
+    requires { ⌜ Room p n m (now w) ⌝ }
+    ensures { λ _. ⌜ now (w .exit) ≡ sets (now (w .entry)) (restAt n m) (pthPowers p (segment (now (w .entry)) 0 (ceilDiv n p))) ⌝ }
 {
     let order = rounded_up(n, p as usize);
     pth_powers(p, w, 0, order, n + m + n + n);

@@ -6,6 +6,7 @@ use mathlib.Core.Path.{_≡_}
 use Rattle.bernstein.specs.Level.{level-constant}
 use Rattle.bernstein.specs.Loop.{
   PartsJoined,
+  Prepared,
   level-rebased,
   parts-first,
   parts-level,
@@ -13,6 +14,7 @@ use Rattle.bernstein.specs.Loop.{
   parts-room,
   parts-small,
   parts-turn,
+  prepared-first,
   prepared-ready,
 }
 use Rattle.bernstein.specs.Rest.{fewer, rest-fits, part-value-written, room-part, room-rest, room-spread}
@@ -178,11 +180,16 @@ module _ (t : ℕ) where
   parts-top-part-requires : parts-lts.Need-top-part-requires parts-calls (parts-at t) parts.Post parts-Inv parts-μ
   parts-top-part-requires c κs = search needs
 
+  -- h is written
+  prepared : (c : parts-lts.After-prepare parts-calls (parts-at t) parts.Post parts-Inv parts-μ)
+      → (let args = c .before .before .before .args in Prepared (args .p) (args .n) (args .m) (args .w .now) (c .prepare .last .1 .1 .1 .0))
+  prepared c = let pre = c .before .before .before .pre .1 in prepared-first (pre .0) (pre .1) (c .prepare .ensures)
+
   parts-part-value-requires : parts-lts.Need-part-value-requires parts-calls (parts-at t) parts.Post parts-Inv parts-μ
   parts-part-value-requires c κs =
       let start = c .before .before .before .before .before .before .before in (
         omega (arith, start .pre .0),
-        prepared-ready (c .before .before .before .before .prepare .ensures) _ (omega (arith, c .before .top-part .ensures, start .pre .1 .1)),
+        prepared-ready (prepared (c .before .before .before .before)) _ (omega (arith, c .before .top-part .ensures, start .pre .1 .1)),
       )
 
   parts-add-move-down : parts-lts.Need-add-move-down parts-calls (parts-at t) parts.Post parts-Inv parts-μ
@@ -202,7 +209,7 @@ module _ (t : ℕ) where
       let value = c .before .before .before .before .before .before in
       let top = value .before .before in
       let prepare = top .before .before .before in
-      parts-first (prepare .prepare .ensures) (top .top-part .ensures) (value .part-value .ensures) (c .before .before .move-down .ensures)
+      parts-first (prepared prepare) (top .top-part .ensures) (value .part-value .ensures) (c .before .before .move-down .ensures)
 
   parts-loop-holds : parts-lts.Need-loop-holds parts-calls (parts-at t) parts.Post parts-Inv parts-μ
   parts-loop-holds c = parts-rebased (top-joined c)
@@ -255,42 +262,18 @@ pub +level+part-value+parts-spec : {M : Type 1} → statement M
 +level+part-value+parts-spec =
     close μ-level μ-part-value μ-parts
     (λ t. level-lts.spec (level-calls t) (level-at t) level.Post
-    (level-constant-requires t)
-    (level-same-length t)
-    (level-returns t)
-    (level-parts-requires t)
-    (level-same-length-2 t)
-    (level-returns-2 t))
+    (level-constant-requires t) (level-same-length t) (level-returns t)
+    (level-parts-requires t) (level-same-length-2 t) (level-returns-2 t))
     (λ t. part-value-lts.spec (part-value-calls t) (part-value-at t) part-value.Post
-    (part-value-add-next t)
-    (part-value-add-next-2 t)
-    (part-value-add-rest t)
-    (part-value-rounded-up-requires t)
-    (part-value-add-at t)
-    (part-value-part-requires t)
-    (part-value-mul-level t)
-    (part-value-sub-level t)
-    (part-value-part-level-start t)
-    (part-value-part-level-end t)
-    (part-value-level-requires t)
-    (part-value-add-spread t)
-    (part-value-spread-requires t)
-    (part-value-same-length t)
-    (part-value-returns t))
+    (part-value-add-next t) (part-value-add-next-2 t) (part-value-add-rest t)
+    (part-value-rounded-up-requires t) (part-value-add-at t) (part-value-part-requires t)
+    (part-value-mul-level t) (part-value-sub-level t) (part-value-part-level-start t)
+    (part-value-part-level-end t) (part-value-level-requires t) (part-value-add-spread t)
+    (part-value-spread-requires t) (part-value-same-length t) (part-value-returns t))
     (λ t. parts-lts.spec (parts-calls t) (parts-at t) parts.Post (parts-Inv t) (parts-μ t)
-    (parts-add-value t)
-    (parts-prepare-requires t)
-    (parts-top-part-requires t)
-    (parts-part-value-requires t)
-    (parts-add-move-down t)
-    (parts-move-down-requires t)
-    (parts-loop-holds t)
-    (parts-sub-j t)
-    (parts-part-value-requires-2 t)
-    (parts-add-weight t)
-    (parts-join-requires t)
-    (parts-add-weight-2 t)
-    (parts-loop-less t)
-    (parts-loop-again t)
-    (parts-same-length t)
+    (parts-add-value t) (parts-prepare-requires t) (parts-top-part-requires t)
+    (parts-part-value-requires t) (parts-add-move-down t) (parts-move-down-requires t)
+    (parts-loop-holds t) (parts-sub-j t) (parts-part-value-requires-2 t)
+    (parts-add-weight t) (parts-join-requires t) (parts-add-weight-2 t)
+    (parts-loop-less t) (parts-loop-again t) (parts-same-length t)
     (parts-returns t))

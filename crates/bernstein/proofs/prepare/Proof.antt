@@ -1,6 +1,7 @@
 -- `bernstein::prepare` meets its contract. Assumes nothing.
 use borrow.Author.Needs.{needs}
-use Rattle.bernstein.specs.Loop.{prepared-first, room-powers}
+use mathlib.Core.Path.{_∙_}
+use Rattle.bernstein.specs.Loop.{room-powers}
 use Rattle.bernstein.proofs.prepare.Statement.{statement}
 use Rattle.bernstein.proofs.prepare.Tie as tie
 
@@ -18,16 +19,14 @@ add-pth-powers-3 c = search needs
 
 pth-powers-requires : tie.Need-pth-powers-requires
 pth-powers-requires c κs =
-    let room = c .before .before .before .pre .0 in
-    (room .prime, room-powers room (c .before .rounded-up .ensures))
+    let room = c .before .before .before .pre in
+    (room .prime, rw (c .before .rounded-up .ensures) (room-powers room))
 
 same-length : tie.Need-same-length
 same-length c = search needs
 
 returns : tie.Need-returns
-returns c =
-    let start = c .before .before .before .before .before .before in
-    prepared-first (start .pre .0) (c .before .before .before .before .rounded-up .ensures) (start .pre .1) (c .before .before .pth-powers .ensures)
+returns c = c .before .before .pth-powers .ensures ∙ rw (c .before .before .before .before .rounded-up .ensures)
 
 pub prepare-spec : {M : Type 1} → statement M
 prepare-spec =
