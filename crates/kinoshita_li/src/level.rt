@@ -105,7 +105,7 @@ fn expand(p: u32, r: usize, w: &mut [u32], s: Layout) -> u64
     ensures { λ q. ⌜ Expanded p r s (now (w .entry)) (now (w .exit)) q ⌝ }
 {
     let u = s.below;
-    let b = s.opposite;
+    let factor = s.opposite;
     let x = s.product;
     let t = s.result;
     rows::squared(s.half, r, w, u, x.at);
@@ -117,7 +117,7 @@ fn expand(p: u32, r: usize, w: &mut [u32], s: Layout) -> u64
             at: x.at,
             count: u.count,
         },
-        b,
+        factor,
         s.window,
         t,
     )
