@@ -22,7 +22,8 @@ sub-level c = search needs
 level-requires : tie.Need-level-requires
 level-requires c κs =
     let called = c .before .before .before .before in
-    rw (c .before .halvings .ensures) (first-level (called .before .before .before .before .before .pre) (called .denominator .kept .1 .1 .1 .1 .0))
+    rw (c .before .halvings .ensures)
+    (first-level (called .before .before .before .before .before .pre) (called .denominator .kept .1 .1 .1 .1 .0))
 
 same-length : tie.Need-same-length
 same-length c = search needs
@@ -32,7 +33,8 @@ returns c =
     let levels = c .before .before in
     let halved = levels .before .before in
     let called = halved .before .before .before in
-    fraction-done (called .before .before .before .before .before .pre) _ (rw (halved .halvings .ensures, called .denominator .ensures) at (levels .level .ensures))
+    fraction-done (called .before .before .before .before .before .pre) _
+    (rw (halved .halvings .ensures, called .denominator .ensures) at (levels .level .ensures))
 
 pub fraction-spec : {M : Type 1} → statement M
 fraction-spec =
