@@ -9,13 +9,13 @@
 --   divided-next        one coefficient more
 --   divided-factor divided   1 - b is written first, and at the end all of a / b
 -- Assumes nothing.
-use Prim.Native.Nat.{ℕ, zero, suc, _+_, _-_, _*_, _%_, _<_, _≤_}
+use Prim.Native.Nat.{ℕ, zero, suc, _+_, _-_, _%_, _<_, _≤_}
 use native.Mathlib.Nat.{add-zero, mul-comm, mul-zero, sub-self}
 use native.Mathlib.Numerals.{add-one}
 use native.Mathlib.Omega.{arith}
 use mathlib.Core.Logic.{inl, inr}
 use mathlib.Core.Path.{_≡_, refl, sym, ap, _∙_}
-use mathlib.Core.List.{List, [], _∷_, _++_, reverse, reverse-cons}
+use mathlib.Core.List.{List, [], _∷_, reverse, reverse-cons}
 use lib.ListN.{length, getD, set, length-append, length-reverse, List·getD-append}
 use lib.Seq.{sets, getD-at, length-sets}
 use Rattle.algebra.specs.Lists.{coefficient-tabulate, length-tabulate, sum-cong, tabulate-coefficient}

@@ -3,6 +3,7 @@
 --   FractionLent      what `fraction` requires
 --   Fraction          its contract
 --   first-level       what the first level requires
+--   first-rows        the rows of Q lie in the places lent
 --   fraction-done     the first level leaves f(g)
 --   none-done         the route for an empty outer list
 --   places-inside rows-inside fraction-lent some-done   the route for any other

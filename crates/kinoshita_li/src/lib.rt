@@ -4,7 +4,7 @@ mod level;
 mod rows;
 
 ghost use mathlib.Core.Path.{_≡_};
-ghost use Prim.Native.Nat.{_-_, _<_, _≤_, min};
+ghost use Prim.Native.Nat.{_-_, _<_, min};
 ghost use lib.ListN.{length};
 ghost use Rattle.definition.specs.Weight.{halvings, kinoshitaLiWeight};
 ghost use Rattle.kinoshita_li.specs.Whole.{Fraction, FractionLent};

@@ -1,6 +1,5 @@
 -- `kinoshita_li::fraction` meets its contract. Assumes nothing.
 use borrow.Author.Needs.{needs}
-use native.Mathlib.Omega.{arith}
 use Rattle.kinoshita_li.specs.Whole.{first-level, first-rows, fraction-done}
 use Rattle.kinoshita_li.proofs.fraction.Statement.{statement}
 use Rattle.kinoshita_li.proofs.fraction.Tie as tie

@@ -1,11 +1,10 @@
 -- `kinoshita_li::kinoshita_li` meets its contract. Assumes nothing.
 use borrow.Author.Needs.{needs}
 use native.Mathlib.Omega.{arith}
-use Prim.Native.Nat.{_+_, _*_, _-_, _<_, _≤_, min}
+use Prim.Native.Nat.{_+_, _*_, _<_, _≤_}
 use lib.ListN.{length}
 use lib.Seq.{length-front, length-take-le}
-use mathlib.Core.Path.{_≡_, sym, _∙_}
-use Rattle.definition.specs.Refusal.{composeWork}
+use mathlib.Core.Path.{sym, _∙_}
 use Rattle.route.specs.Contract.{lent-places}
 use Rattle.kinoshita_li.specs.Whole.{fraction-lent, none-done, places-inside, rows-inside, some-done}
 use Rattle.kinoshita_li.proofs.kinoshita_li.Statement.{statement}
