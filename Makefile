@@ -1,16 +1,20 @@
 # make test   the gate: formatting, the comparison tests, the proofs, the must-fail edits and the programs
 # make run    the job program on the whole case of document 01; until the program exists, the settled examples
+# make bench  each route beside the straightforward code of the second implementation, as ratios; no part of the gate
 # make clean  removes target/, where everything that is built stands
 
 SECOND := target/tests/second
 DEFINITIONS := target/tests/definitions
+ROUTES := target/tests/routes
+BENCH := target/tests/bench
 PLAIN := $(wildcard tests/second/*.rs tests/second/*/*.rs)
 RUSTC := rustc --edition 2021 -O -D warnings
+LINKED := -L target/staticlib -l static=trial
 SEED := 1
 
-.PHONY: test run clean formatted second definitions wrong-definitions tools
+.PHONY: test run bench clean formatted second routes library definitions wrong-definitions tools
 
-test: tools formatted second wrong-definitions
+test: tools formatted second wrong-definitions routes
 	rt ci
 
 run: tools
@@ -23,6 +27,21 @@ formatted: tools
 # the plain second implementation checks itself
 second: tools $(SECOND)
 	$(SECOND) $(SEED)
+
+# the four routes of the proved library, linked, held against the second implementation
+routes: tools library $(PLAIN)
+	mkdir -p $(dir $(ROUTES))
+	$(RUSTC) $(LINKED) -o $(ROUTES) tests/routes/main.rs
+	$(ROUTES) $(SEED)
+
+bench: tools library $(PLAIN)
+	mkdir -p $(dir $(BENCH))
+	$(RUSTC) $(LINKED) -o $(BENCH) tests/bench/main.rs
+	$(BENCH)
+
+# the static library, which is proved before it is written
+library: tools
+	rt staticlib trial
 
 # the definitions, held against the second implementation: the prover computes seeded equations in a repository of their own
 definitions: tools $(DEFINITIONS)

@@ -1,6 +1,5 @@
 // Route 1, Horner (document 004): from the top coefficient on, multiply by g and add the next.
-ghost use Prim.Native.Nat.{_-_, _<_};
-ghost use mathlib.Core.Path.{_≡_};
+ghost use Prim.Native.Nat.{_<_};
 ghost use lib.ListN.{length};
 ghost use Rattle.definition.specs.Weight.{hornerWeight};
 ghost use Rattle.horner.specs.Part.{Part, PartOperands};
@@ -17,20 +16,12 @@ pub fn step(p: u32, n: usize, c: u32, w: &mut [u32], s: usize, b: usize, t: usiz
     product::multiply_add(p, n, w, s, b, t)
 }
 
-// The place of a list's top coefficient; 0 for the empty list.
-fn top_place(f: &[u32]) -> usize
-    ensures { λ r. ⌜ r ≡ length (now (f .entry)) - 1 ⌝ }
-{
-    let m = f.len();
-    if m == 0 { 0 } else { m - 1 }
-}
-
 // The n places from t on become f(G) modulo p and x^n, where G are the n places from b on. The n places after them are used.
 pub fn horner_part(p: u32, n: usize, f: &[u32], w: &mut [u32], b: usize, t: usize) -> u64
     requires { ⌜ PartOperands p n (now f) b t (now w) ⌝ }
     ensures { λ r. ⌜ Part p n (now (f .entry)) b t (now (w .entry)) (now (w .exit)) r ⌝ }
 {
-    let mut i = top_place(f);
+    let mut i = number::excess(f.len(), 1);
     let c = route::place(f, i);
     route::put_constant(c % p, n, w, t);
     let mut weight: u64 = 0;

@@ -1,6 +1,6 @@
 // Cut products modulo p, on parts of one lent buffer. Each gives back the number of places that it is cut to.
 ghost use mathlib.Core.Path.{_≡_};
-ghost use Prim.Native.Nat.{_+_, _*_, _%_, _<_, _≤_, _^_, _-_, min};
+ghost use Prim.Native.Nat.{_+_, _*_, _%_, _<_, _≤_, _^_};
 ghost use lib.ListN.{length, replicate};
 ghost use lib.Seq.{sets};
 ghost use Rattle.definition.specs.Lists.{coefficient, tabulate};
@@ -73,28 +73,14 @@ pub fn multiply(p: u32, n: usize, w: &mut [u32], a: usize, b: usize, t: usize) -
     multiply_add(p, n, w, a, b, t)
 }
 
-// a - b, or 0 where b is larger.
-fn excess(a: usize, b: usize) -> usize
-    ensures { λ r. ⌜ r ≡ a - b ⌝ }
-{
-    if a < b { 0 } else { a - b }
-}
-
-// The smaller of two numbers.
-fn smaller(a: usize, b: usize) -> usize
-    ensures { λ r. ⌜ r ≡ min a b ⌝ }
-{
-    if a < b { a } else { b }
-}
-
 // The r places from t on become row j of A B modulo p and below x^r, where A and B stand in rows of r places at a and at b.
 fn multiply_row(p: u32, r: usize, w: &mut [u32], a: Rows, b: Rows, j: usize, t: usize)
     requires { ⌜ RowOperands p r a b t r (now w) × (j + 1 < 2 ^ 64) ⌝ }
     ensures { λ _. ⌜ now (w .exit) ≡ sets (now (w .entry)) t (tabulate r (productOf p r a b (now (w .entry)) j)) ⌝ }
 {
     buffer::clear_part(w, t, r);
-    let end = smaller(j + 1, a.count);
-    let mut l = excess(j + 1, b.count);
+    let end = number::smaller(j + 1, a.count);
+    let mut l = number::excess(j + 1, b.count);
     while l < end {
         multiply_add(p, r, w, a.at + l * r, b.at + (j - l) * r, t);
         l += 1;

@@ -3,6 +3,7 @@
 --   Decides A b    b is true where A holds, and false where it does not
 --   decided-true decided-false   what the two answers say
 --   decides-leb    a comparison decides what it is equivalent to
+--   decides-prime  the test of a prime decides whether a number is prime
 --   turnedDown     what a call that is turned down gives back: 2^64 - 1
 --   Tried A        the contract of a call: where A holds the route is run; else it gives back `turnedDown` and changes no buffer
 --   tried-run tried-down   the contract holds of the two ways through a call
@@ -12,8 +13,10 @@ use native.Mathlib.Omega.{arith}
 use borrow.Author.Tests.{leb-true, leb-false}
 use lib.Dec.{leb}
 use mathlib.Core.Bool.{Bool, true, false, true≢false}
-use mathlib.Core.Path.{_≡_, refl, sym}
+use mathlib.Core.Path.{_≡_, refl, sym, _∙_}
 use mathlib.Core.List.{List}
+use Rattle.algebra.specs.Prime.{isPrime-true, prime-of-test}
+use Rattle.definition.specs.Prime.{Prime, isPrime}
 use Rattle.route.specs.Contract.{Route}
 
 pub data Decides (A : Type 0) : Bool → Type 0 where
@@ -34,6 +37,13 @@ decides-leb {A} a b to from = go (leb a b) refl
     go : (t : Bool) → leb a b ≡ t → Decides A t
     go true e = holds (to (leb-true a b e))
     go false e = fails (λ h. omega (arith, from h, leb-false a b e))
+
+pub decides-prime : {A : Type 0} (p : ℕ) → A → Decides (A × Prime p) (isPrime p)
+decides-prime {A} p a = go (isPrime p) refl
+  where
+    go : (t : Bool) → isPrime p ≡ t → Decides (A × Prime p) t
+    go true e = holds (a, prime-of-test p e)
+    go false e = fails (λ h. true≢false (sym (isPrime-true (h .1)) ∙ e))
 
 unfoldable pub turnedDown : ℕ
 turnedDown = 2 ^ 64 - 1

@@ -1,9 +1,9 @@
 // The four routes as C functions, for the comparison tests and the benchmark. Each tests what its route requires, and turns a call down
 // that it does not take: it gives back 2^64 - 1, which is no weight, and changes no buffer.
-ghost use Prim.Native.Nat.{_<_};
 ghost use lib.ListN.{length};
 ghost use Rattle.definition.specs.Prime.{Prime};
-ghost use Rattle.definition.specs.Weight.{hornerWeight};
+ghost use Rattle.definition.specs.Ranged.{blockLength};
+ghost use Rattle.definition.specs.Weight.{bernsteinWeight, hornerWeight, kinoshitaLiWeight, rangedWeight};
 ghost use Rattle.route.specs.Contract.{Lent};
 ghost use Rattle.trial.specs.Tried.{Decides, Tried};
 
@@ -29,6 +29,17 @@ fn takes(p: u32, n: usize, m: usize, places: usize, work: usize) -> bool
     route::work_places(n, m) <= work
 }
 
+// The same, and whether the modulus is prime.
+fn takes_prime(p: u32, n: usize, m: usize, places: usize, work: usize) -> bool
+    ensures { λ r. ⌜ Decides (Lent p n m places work × Prime p) r ⌝ }
+{
+    if takes(p, n, m, places, work) {
+        field::is_prime(p)
+    } else {
+        false
+    }
+}
+
 // Route 1.
 #[no_mangle]
 pub extern "C" fn trial_horner(
@@ -39,10 +50,75 @@ pub extern "C" fn trial_horner(
     out: &mut [u32],
     w: &mut [u32],
 ) -> u64
-    ensures { λ r. ⌜ Tried (Lent p n (length (now (f .entry))) (length (now (out .entry))) (length (now (w .entry)))) p n (now (f .entry)) (now (g .entry)) (hornerWeight n (length (now (f .entry)))) (now (out .entry)) (now (out .exit)) (now (w .entry)) (now (w .exit)) r ⌝ }
+    ensures { λ r. ⌜ Tried (Lent p n (length (now (f .entry))) (length (now (out .entry))) (length (now (w .entry)))) p n
+        (now (f .entry)) (now (g .entry)) (hornerWeight n (length (now (f .entry))))
+        (now (out .entry)) (now (out .exit)) (now (w .entry)) (now (w .exit)) r ⌝ }
 {
     if takes(p, n, f.len(), out.len(), w.len()) {
         horner::horner(p, n, f, g, out, w)
+    } else {
+        18446744073709551615
+    }
+}
+
+// Route 2.
+#[no_mangle]
+pub extern "C" fn trial_ranged(
+    p: u32,
+    n: usize,
+    f: &[u32],
+    g: &[u32],
+    out: &mut [u32],
+    w: &mut [u32],
+) -> u64
+    ensures { λ r. ⌜ Tried (Lent p n (length (now (f .entry))) (length (now (out .entry))) (length (now (w .entry)))) p n
+        (now (f .entry)) (now (g .entry)) (rangedWeight blockLength n (length (now (f .entry))))
+        (now (out .entry)) (now (out .exit)) (now (w .entry)) (now (w .exit)) r ⌝ }
+{
+    if takes(p, n, f.len(), out.len(), w.len()) {
+        ranged::ranged(p, n, f, g, out, w)
+    } else {
+        18446744073709551615
+    }
+}
+
+// Route 3.
+#[no_mangle]
+pub extern "C" fn trial_bernstein(
+    p: u32,
+    n: usize,
+    f: &[u32],
+    g: &[u32],
+    out: &mut [u32],
+    w: &mut [u32],
+) -> u64
+    ensures { λ r. ⌜ Tried (Lent p n (length (now (f .entry))) (length (now (out .entry))) (length (now (w .entry))) × Prime p) p n
+        (now (f .entry)) (now (g .entry)) (bernsteinWeight p n (length (now (f .entry))))
+        (now (out .entry)) (now (out .exit)) (now (w .entry)) (now (w .exit)) r ⌝ }
+{
+    if takes_prime(p, n, f.len(), out.len(), w.len()) {
+        bernstein::bernstein(p, n, f, g, out, w)
+    } else {
+        18446744073709551615
+    }
+}
+
+// Route 4.
+#[no_mangle]
+pub extern "C" fn trial_kinoshita_li(
+    p: u32,
+    n: usize,
+    f: &[u32],
+    g: &[u32],
+    out: &mut [u32],
+    w: &mut [u32],
+) -> u64
+    ensures { λ r. ⌜ Tried (Lent p n (length (now (f .entry))) (length (now (out .entry))) (length (now (w .entry)))) p n
+        (now (f .entry)) (now (g .entry)) (kinoshitaLiWeight n (length (now (f .entry))))
+        (now (out .entry)) (now (out .exit)) (now (w .entry)) (now (w .exit)) r ⌝ }
+{
+    if takes(p, n, f.len(), out.len(), w.len()) {
+        kinoshita_li::kinoshita_li(p, n, f, g, out, w)
     } else {
         18446744073709551615
     }

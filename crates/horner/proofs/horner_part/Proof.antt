@@ -31,7 +31,7 @@ module _ (c : tie.After-put-constant Inv-loop μ-loop) where
   put =
       c .put-constant .ensures
       ∙ ap (λ x. sets (begin .args .w .now) (begin .args .t) (tabulate (begin .args .n) (constant (x % begin .args .p))))
-      (c .before .before .place .ensures ∙ ap (coefficient (begin .args .f .now)) (c .before .before .before .top-place .ensures))
+      (c .before .before .place .ensures ∙ ap (coefficient (begin .args .f .now)) (c .before .before .before .excess .ensures))
 
   operands : PartOperands (begin .args .p) (begin .args .n) (begin .args .f .now) (begin .args .b) (begin .args .t) w₁
   operands = operands-put (begin .pre) put
@@ -49,8 +49,8 @@ left c =
     let e : c .before .loop .i ≡ suc (c .before .loop .i - 1) = omega arith in
     rw e at (c .before .loop .inv)
 
-top-place-requires : tie.Need-top-place-requires Inv-loop μ-loop
-top-place-requires c κs = search needs
+excess-requires : tie.Need-excess-requires Inv-loop μ-loop
+excess-requires c κs = search needs
 
 place-requires : tie.Need-place-requires Inv-loop μ-loop
 place-requires c κs = search needs
@@ -65,7 +65,7 @@ put-constant-requires c κs =
 loop-holds : tie.Need-loop-holds Inv-loop μ-loop
 loop-holds c =
     let put-top = c .before .before in
-    rw (put-top .before .before .before .top-place .ensures) (running-first (begin put-top .pre) (put put-top))
+    rw (put-top .before .before .before .excess .ensures) (running-first (begin put-top .pre) (put put-top))
 
 sub-i : tie.Need-sub-i Inv-loop μ-loop
 sub-i c = search needs
@@ -122,7 +122,7 @@ horner-part-spec =
     (tie.spec
     Inv-loop
     μ-loop
-    top-place-requires
+    excess-requires
     place-requires
     rem-put-constant
     put-constant-requires

@@ -1,0 +1,30 @@
+-- `bernstein::join` meets its contract. Assumes nothing.
+use borrow.Author.Needs.{needs}
+use Rattle.bernstein.specs.Join.{join-operands, join-moved}
+use Rattle.bernstein.proofs.join.Statement.{statement}
+use Rattle.bernstein.proofs.join.Tie as tie
+
+add-value : tie.Need-add-value
+add-value c = search needs
+
+add-next : tie.Need-add-next
+add-next c = search needs
+
+multiply-add-requires : tie.Need-multiply-add-requires
+multiply-add-requires c κs = join-operands (c .before .before .pre)
+
+move-down-requires : tie.Need-move-down-requires
+move-down-requires c κs = search needs
+
+same-length : tie.Need-same-length
+same-length c = search needs
+
+returns : tie.Need-returns
+returns c =
+    let start = c .before .before .before .before .before .before .before .before .before in
+    join-moved (start .pre) (c .before .before .before .before .before .before .multiply-add .ensures) (c .before .before .move-down .ensures)
+
+pub join-spec : {M : Type 1} → statement M
+join-spec =
+    tie.close
+    (tie.spec add-value add-next multiply-add-requires move-down-requires same-length returns)

@@ -1,0 +1,94 @@
+-- `bernstein::pth_powers` meets its contract: after i turns the first i places are written. Assumes nothing.
+use borrow.Author.Needs.{needs}
+use native.Mathlib.Omega.{arith}
+use Prim.Native.Nat.{ℕ, _-_, _≤_, _%_}
+use mathlib.Core.Path.{_≡_, _∙_}
+use lib.Seq.{sets}
+use lib.ListN.{length}
+use Rattle.buffer.specs.Written.{length-part}
+use Rattle.definition.specs.Lists.{tabulate, coefficient}
+use Rattle.product.specs.Segments.{segment}
+use Rattle.route.specs.Table.{table-first, table-next}
+use Rattle.bernstein.specs.Steps.{place-kept}
+use Rattle.bernstein.specs.Split.{pthPowers-reduced}
+use Rattle.bernstein.proofs.pth_powers.Statement.{statement}
+use Rattle.bernstein.proofs.pth_powers.Tie as tie
+
+abbrev Inv-loop : tie.InvT-loop
+Inv-loop p w₀ a k t i₀ w i =
+    (i ≤ k) × (length w ≡ length w₀) × (w ≡ sets w₀ t (tabulate i (λ x. coefficient (segment w₀ a k) x % p)))
+
+abbrev μ-loop : tie.MeasureT-loop
+μ-loop p w₀ a k t i₀ w i = k - i
+
+loop-holds : tie.Need-loop-holds Inv-loop μ-loop
+loop-holds c = (search needs, search needs, table-first _ _ _)
+
+add-w : tie.Need-add-w Inv-loop μ-loop
+add-w c = search needs
+
+mul-w : tie.Need-mul-w Inv-loop μ-loop
+mul-w c = search needs
+
+slice-read-w : tie.Need-slice-read-w Inv-loop μ-loop
+slice-read-w c = search needs
+
+rem-w : tie.Need-rem-w Inv-loop μ-loop
+rem-w c = search needs
+
+add-w-2 : tie.Need-add-w-2 Inv-loop μ-loop
+add-w-2 c = search needs
+
+mul-w-2 : tie.Need-mul-w-2 Inv-loop μ-loop
+mul-w-2 c = search needs
+
+slice-write-w : tie.Need-slice-write-w Inv-loop μ-loop
+slice-write-w c = search needs
+
+add-i : tie.Need-add-i Inv-loop μ-loop
+add-i c = search needs
+
+loop-less : tie.Need-loop-less Inv-loop μ-loop
+loop-less c = search needs
+
+loop-again : tie.Need-loop-again Inv-loop μ-loop
+loop-again c =
+    let at = c .before .before in
+    let start = at .before in
+    let rule : ℕ → ℕ = λ x. coefficient (segment (start .args .w .now) (start .args .a) (start .args .k)) x % start .args .p in (
+      search needs,
+      search needs,
+      rw (at .loop .inv .2, place-kept (start .pre .1) rule (at .loop .i) (omega arith) (at .loop .i) (c .before .loop-test .taken))
+          (table-next _ _ rule (at .loop .i)),
+    )
+
+same-length : tie.Need-same-length Inv-loop μ-loop
+same-length c = search needs
+
+returns : tie.Need-returns Inv-loop μ-loop
+returns c =
+    let at = c .before in
+    let start = at .before in
+    let size = length-part (start .args .w .now) (start .args .a) (start .args .k) (start .pre .1 .source) in
+    let all : at .loop .i ≡ start .args .k = omega arith in
+    at .loop .inv .2 ∙ rw (all, pthPowers-reduced (start .pre .0), size)
+
+pub pth-powers-spec : {M : Type 1} → statement M
+pth-powers-spec =
+    tie.close
+    (tie.spec
+    Inv-loop
+    μ-loop
+    loop-holds
+    add-w
+    mul-w
+    slice-read-w
+    rem-w
+    add-w-2
+    mul-w-2
+    slice-write-w
+    add-i
+    loop-less
+    loop-again
+    same-length
+    returns)

@@ -1,0 +1,106 @@
+-- `bernstein::spread` meets its contract: after i turns the first i places are written. Assumes nothing.
+use borrow.Author.Needs.{needs}
+use native.Mathlib.Nat.{add-sub-cancel-left}
+use native.Mathlib.Omega.{arith}
+use Prim.Native.Nat.{_-_, _≤_}
+use mathlib.Core.Path.{_≡_, _∙_}
+use lib.Seq.{sets}
+use lib.ListN.{length}
+use Rattle.definition.specs.Bernstein.{spread, spreadList}
+use Rattle.definition.specs.Lists.{tabulate, coefficient}
+use Rattle.product.specs.Segments.{segment}
+use Rattle.route.specs.Table.{table-first, table-next}
+use Rattle.bernstein.specs.Steps.{table-kept}
+use Rattle.bernstein.proofs.spread.Statement.{statement}
+use Rattle.bernstein.proofs.spread.Tie as tie
+
+abbrev Inv-loop : tie.InvT-loop
+Inv-loop p n w₀ a k t end i₀ w i =
+    (i ≤ n) × (length w ≡ length w₀) × (w ≡ sets w₀ t (tabulate i (spread p (coefficient (segment w₀ a k)))))
+
+abbrev μ-loop : tie.MeasureT-loop
+μ-loop p n w₀ a k t end i₀ w i = n - i
+
+add-end : tie.Need-add-end Inv-loop μ-loop
+add-end c = search needs
+
+loop-holds : tie.Need-loop-holds Inv-loop μ-loop
+loop-holds c = (search needs, search needs, table-first _ _ _)
+
+mul-spread-coefficient : tie.Need-mul-spread-coefficient Inv-loop μ-loop
+mul-spread-coefficient c = search needs
+
+sub-spread-coefficient : tie.Need-sub-spread-coefficient Inv-loop μ-loop
+sub-spread-coefficient c = search needs
+
+part-spread-coefficient-start : tie.Need-part-spread-coefficient-start Inv-loop μ-loop
+part-spread-coefficient-start c = search needs
+
+part-spread-coefficient-end : tie.Need-part-spread-coefficient-end Inv-loop μ-loop
+part-spread-coefficient-end c = search needs
+
+spread-coefficient-requires : tie.Need-spread-coefficient-requires Inv-loop μ-loop
+spread-coefficient-requires c κs = search needs
+
+add-w : tie.Need-add-w Inv-loop μ-loop
+add-w c = search needs
+
+mul-w : tie.Need-mul-w Inv-loop μ-loop
+mul-w c = search needs
+
+slice-write-w : tie.Need-slice-write-w Inv-loop μ-loop
+slice-write-w c = search needs
+
+add-i : tie.Need-add-i Inv-loop μ-loop
+add-i c = search needs
+
+loop-less : tie.Need-loop-less Inv-loop μ-loop
+loop-less c = search needs
+
+loop-again : tie.Need-loop-again Inv-loop μ-loop
+loop-again c =
+    let at = c .before .before .before .before in
+    let start = at .before .before in
+    let rule = spread (start .args .p) (coefficient (segment (start .args .w .now) (start .args .a) (start .args .k))) in (
+      search needs,
+      search needs,
+      rw (
+        c .spread-coefficient .ensures,
+        add-sub-cancel-left,
+        at .loop .inv .2,
+        table-kept (start .pre .1) rule (at .loop .i) (omega arith),
+      )
+          (table-next _ _ rule (at .loop .i)),
+    )
+
+same-length : tie.Need-same-length Inv-loop μ-loop
+same-length c = search needs
+
+returns : tie.Need-returns Inv-loop μ-loop
+unfolding spreadList
+returns c =
+    let at = c .before in
+    let all : at .loop .i ≡ at .before .before .args .n = omega arith in
+    at .loop .inv .2 ∙ rw all
+
+pub spread-spec : {M : Type 1} → statement M
+spread-spec =
+    tie.close
+    (tie.spec
+    Inv-loop
+    μ-loop
+    add-end
+    loop-holds
+    mul-spread-coefficient
+    sub-spread-coefficient
+    part-spread-coefficient-start
+    part-spread-coefficient-end
+    spread-coefficient-requires
+    add-w
+    mul-w
+    slice-write-w
+    add-i
+    loop-less
+    loop-again
+    same-length
+    returns)

@@ -1,0 +1,52 @@
+-- `ranged::fourth_power` meets its contract: two squarings. Assumes nothing.
+use borrow.Author.Needs.{needs}
+use mathlib.Core.Logic.{inl, inr}
+use Rattle.ranged.specs.Kept.{fourth-power, square-operands}
+use native.Mathlib.Omega.{arith}
+use Rattle.ranged.proofs.fourth_power.Statement.{statement}
+use Rattle.ranged.proofs.fourth_power.Tie as tie
+
+mul-multiply : tie.Need-mul-multiply
+mul-multiply c = search needs
+
+multiply-requires : tie.Need-multiply-requires
+multiply-requires c κs =
+    let pre = c .before .before .pre in
+    square-operands (pre .modulus) (pre .order) (record { source = omega arith; target = omega arith; apart = inl (omega arith) })
+
+mul-multiply-2 : tie.Need-mul-multiply-2
+mul-multiply-2 c = search needs
+
+mul-multiply-3 : tie.Need-mul-multiply-3
+mul-multiply-3 c = search needs
+
+multiply-requires-2 : tie.Need-multiply-requires-2
+multiply-requires-2 c κs =
+    let pre = c .before .before .before .before .before .before .pre in
+    let size = c .before .before .before .multiply .kept .0 in
+    square-operands (pre .modulus) (pre .order) (record { source = omega arith; target = omega arith; apart = inr (omega arith) })
+
+add-result : tie.Need-add-result
+add-result c = search needs
+
+same-length : tie.Need-same-length
+same-length c = search needs
+
+returns : tie.Need-returns
+returns c =
+    let second = c .before .before in
+    let first = second .before .before .before .before in
+    fourth-power (first .before .before .before .pre) (first .multiply .ensures) (second .multiply2 .ensures)
+
+pub fourth-power-spec : {M : Type 1} → statement M
+fourth-power-spec =
+    tie.close
+    (tie.spec
+    mul-multiply
+    multiply-requires
+    mul-multiply-2
+    mul-multiply-3
+    multiply-requires-2
+    add-result
+    same-length
+    returns)

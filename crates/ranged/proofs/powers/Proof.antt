@@ -1,0 +1,42 @@
+-- `ranged::powers` meets its contract: the first power, and its squares. Assumes nothing.
+use borrow.Author.Needs.{needs}
+use lib.Count.{leadingZeros, ones, onesIn}
+use Rattle.definition.specs.Ranged.{blockLength}
+use Rattle.definition.specs.Weight.{powerProducts}
+use Rattle.ranged.specs.Kept.{first-operands, place-bound, powers-made, powers-none}
+use native.Mathlib.Omega.{arith}
+use Prim.Native.Nat.{_-_}
+use Rattle.ranged.proofs.powers.Statement.{statement}
+use Rattle.ranged.proofs.powers.Tie as tie
+
+returns : tie.Need-returns
+returns c = rw (c .if1 .taken) (powers-none _ _ _ _)
+
+fourth-power-requires : tie.Need-fourth-power-requires
+fourth-power-requires c κs = first-operands (c .before .before .before .pre) (c .before .if1 .left)
+
+squares-requires : tie.Need-squares-requires
+squares-requires c κs = search needs
+
+add-result : tie.Need-add-result
+unfolding blockLength powerProducts leadingZeros ones onesIn
+add-result c =
+    let second = c .before .before in
+    let first = second .before .before .before .before in
+    let begin = first .before .before .before .before in
+    let bound = place-bound (begin .pre) (begin .args .rounds - 1) (omega arith) in
+    omega (arith, first .fourth-power .ensures .sum, second .squares .ensures .sum)
+
+same-length : tie.Need-same-length
+same-length c = search needs
+
+returns-2 : tie.Need-returns-2
+returns-2 c =
+    let second = c .before .before in
+    let first = second .before .before .before .before in
+    powers-made (omega (arith, first .before .before .if1 .left)) (first .fourth-power .ensures) (second .squares .ensures)
+
+pub powers-spec : {M : Type 1} → statement M
+powers-spec =
+    tie.close
+    (tie.spec returns fourth-power-requires squares-requires add-result same-length returns-2)

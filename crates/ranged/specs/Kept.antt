@@ -1,0 +1,203 @@
+-- The powers of the inner list that the joins need, kept in the work buffer. The inner list stands at place 0, its power g^(b 2^i) at
+-- place (i + 1) n.
+--
+--   Holds p n b g count w   the first `count` powers stand in w
+--   PowerOperands           what the routines that form them require: the places of the powers, and n after them
+--   BasePower               the contract of `fourth_power`: the power g^b
+--   Squares                 the contract of `squares`: from the first power, whatever power it is, the others
+--   Powers                  the contract of `powers`
+--   next-place              the place after n more
+--   holds-first             the first power
+--   holds-next              one power more, by squaring the last
+--   holds-within            a change after the powers keeps them
+--   square-operands         what a squaring requires, where the target lies apart from what is squared
+--   place-bound             the places of the powers fit a word
+--   first-operands          what the first power requires
+--   squares-operands        what each further squaring requires
+--   fourth-power            two squarings give g^4
+--   squares-first squares-next   `squares` before the first turn, and one turn
+--   powers-none powers-made   `powers` without a round, and with one or more
+-- Assumes nothing.
+use Prim.Native.Nat.{ℕ, zero, suc, _+_, _-_, _*_, _^_, _<_, _≤_}
+use native.Mathlib.Decide.{ℕ-discrete}
+use native.Mathlib.Nat.{add-mul, le-refl, le-trans, mul-le-mul, mul-le-mul-right, mul-one, suc-mul, one-mul}
+use native.Mathlib.Numerals.{add-one}
+use native.Mathlib.Omega.{arith}
+use mathlib.Core.List.{List}
+use mathlib.Core.Logic.{inl}
+use mathlib.Core.Path.{_≡_, ap, _∙_}
+use lib.Count.{leadingZeros, ones, onesIn}
+use lib.ListN.{length}
+use lib.Seq.{sets}
+use Rattle.definition.specs.Ranged.{blockLength, cutPower}
+use Rattle.definition.specs.Substitution.{cutProduct}
+use Rattle.definition.specs.Weight.{powerProducts}
+use Rattle.product.specs.Segments.{segment, Apart}
+use Rattle.product.specs.Single.{Multiplied, Operands}
+use Rattle.route.specs.Within.{Within, segment-sets, segment-within, within-refl, within-sets, within-trans, within-wider}
+use Rattle.ranged.specs.Powers.{cut-power, first-power, length-cutProduct, power-product, power-square}
+use Rattle.ranged.specs.Weights.{powersProducts}
+
+pub record Holds (p n b : ℕ) (g : List ℕ) (count : ℕ) (w : List ℕ) : Type 0 where
+  pub power : (i : ℕ) → i < count → segment w ((i + 1) * n) n ≡ cutPower p n g (b * 2 ^ i)
+
+pub record PowerOperands (p n rounds : ℕ) (w : List ℕ) : Type 0 where
+  pub modulus : 0 < p
+  pub order : n ≤ 4096
+  pub limit : rounds ≤ 12
+  pub room : (rounds + 2) * n ≤ length w
+
+pub record BasePower (p n b : ℕ) (before after : List ℕ) (result : ℕ) : Type 0 where
+  pub within : Within n (2 * n) before after
+  pub value : segment after n n ≡ cutPower p n (segment before 0 n) b
+  pub sum : result ≡ powerProducts b * n
+
+pub record Squares (p n rounds : ℕ) (before after : List ℕ) (result : ℕ) : Type 0 where
+  pub within : Within n (rounds * n) before after
+  pub value : (b : ℕ) (g : List ℕ) → segment before n n ≡ cutPower p n g b → Holds p n b g rounds after
+  pub sum : result ≡ (rounds - 1) * n
+
+pub record Powers (p n b rounds : ℕ) (before after : List ℕ) (result : ℕ) : Type 0 where
+  pub within : Within n ((rounds + 1) * n) before after
+  pub value : Holds p n b (segment before 0 n) rounds after
+  pub sum : result ≡ powersProducts b rounds * n
+
+pub next-place : (n i : ℕ) → (i + 1) * n ≡ i * n + n
+next-place n i = rw (add-one, suc-mul)
+
+-- n places from place (i + 1) n on end before place k n, for i + 1 below k
+places-before : (n i k : ℕ) → i + 1 < k → (i + 1) * n + n ≤ k * n
+places-before n i k below = rw (← suc-mul) (mul-le-mul-right n below)
+
+pub holds-first : {p n b : ℕ} {g w : List ℕ} → segment w n n ≡ cutPower p n g b → Holds p n b g 1 w
+holds-first {p} {n} {b} {g} {w} value = record { power = at }
+  where
+    at : (i : ℕ) → i < 1 → segment w ((i + 1) * n) n ≡ cutPower p n g (b * 2 ^ i)
+    at i below =
+        let e : i ≡ 0 = omega arith in
+        rw (e, mul-one, one-mul) value
+
+pub holds-within : {p n b : ℕ} {g : List ℕ} {count t m : ℕ} {v w : List ℕ} → (count + 1) * n ≤ t → Within t m v w
+    → Holds p n b g count v → Holds p n b g count w
+holds-within {n = n} {count} low within holds = record {
+  power = λ i below.
+      segment-within within ((i + 1) * n) n (inl (le-trans (places-before n i (count + 1) (omega arith)) low)) ∙ holds .power i below;
+}
+
+pub holds-next : {p n b : ℕ} {g : List ℕ} {i : ℕ} {w : List ℕ} → 0 < p → 0 < i → (i + 2) * n ≤ length w → Holds p n b g i w
+    → Holds p n b g (i + 1) (sets w ((i + 1) * n) (cutProduct p n (segment w (i * n) n) (segment w (i * n) n)))
+holds-next {i = zero} l some room holds = absurd (omega arith)
+holds-next {p} {n} {b} {g} {i = suc i} {w} l some room holds = record { power = λ k below. at k below (ℕ-discrete k (suc i)) }
+  where
+    square : List ℕ
+    square = cutProduct p n (segment w (suc i * n) n) (segment w (suc i * n) n)
+
+    after : List ℕ
+    after = sets w ((suc i + 1) * n) square
+
+    size : length square ≡ n
+    size = length-cutProduct p n (segment w (suc i * n) n) (segment w (suc i * n) n)
+
+    kept : Holds p n b g (suc i) after
+    kept =
+        holds-within (le-refl ((suc i + 1) * n))
+        (within-sets {n = n} w ((suc i + 1) * n) square (le-refl ((suc i + 1) * n)) (rw size (le-refl _))) holds
+
+    next : segment after ((suc i + 1) * n) n ≡ cutPower p n g (b * 2 ^ suc i)
+    next =
+        segment-sets w ((suc i + 1) * n) square n size (le-trans (places-before n (suc i) (suc i + 2) (omega arith)) room)
+        ∙ rw (rw add-one at (holds .power i (omega arith))) (power-square l n g b i)
+
+    at : (k : ℕ) → k < suc i + 1 → Dec (k ≡ suc i) → segment after ((k + 1) * n) n ≡ cutPower p n g (b * 2 ^ k)
+    at k below (yes last) = rw last next
+    at k below (no other) = kept .power k (omega arith)
+
+-- a product that was written to the n places from t on
+within-product : {p n a b t : ℕ} {v w : List ℕ} {r : ℕ} → Multiplied p n a b t v w r
+    → {s m : ℕ} → s ≤ t → t + n ≤ s + m → Within s m v w
+within-product {p} {n} {a} {b} {t} {v} {w} product low high =
+    rw (product .written)
+    (within-sets v t (cutProduct p n (segment v a n) (segment v b n)) low (rw length-cutProduct high))
+
+pub square-operands : {p n a t : ℕ} {w : List ℕ} → 0 < p → n ≤ 4096 → Apart w a n t n → Operands p n a a t w
+square-operands l order apart = record { modulus = l; order = omega arith; left = apart; right = apart }
+
+module _ {p n rounds : ℕ} {u : List ℕ} (pre : PowerOperands p n rounds u) where
+  pub place-bound : (i : ℕ) → i ≤ 13 → i * n ≤ 53248
+  place-bound i few = mul-le-mul few (pre .order)
+
+  pub first-operands : (rounds ≡ 0 → ⊥) → PowerOperands p n 1 u
+  first-operands some = record {
+    modulus = pre .modulus;
+    order = pre .order;
+    limit = omega arith;
+    room = le-trans (mul-le-mul-right n (omega arith)) (pre .room);
+  }
+
+  pub squares-operands : {i : ℕ} {v : List ℕ} → length v ≡ length u → 0 < i → i < rounds → Operands p n (i * n) (i * n) ((i + 1) * n) v
+  squares-operands {i} {v} size some below =
+      let next = next-place n i in
+      let room : (i + 1) * n + n ≤ length u = le-trans (places-before n i (rounds + 2) (omega arith)) (pre .room) in
+      square-operands (pre .modulus) (pre .order) (record { source = omega arith; target = omega arith; apart = inl (omega arith) })
+
+pub fourth-power : {p n : ℕ} {u v w : List ℕ} {r s : ℕ} → PowerOperands p n 1 u
+    → Multiplied p n 0 0 (2 * n) u v r → Multiplied p n (2 * n) (2 * n) n v w s → BasePower p n blockLength u w (r + s)
+unfolding blockLength powerProducts leadingZeros ones onesIn
+fourth-power {p} {n} {u} {v} {w} pre square fourth =
+    let g = segment u 0 n in
+    let squared : segment v (2 * n) n ≡ cutPower p n g 2 =
+    rw (square .written)
+    (segment-sets u (2 * n) (cutProduct p n g g) n (length-cutProduct p n g g) (omega (arith, pre .room))
+    ∙ power-product (pre .modulus) n g (first-power (pre .modulus) n g) (first-power (pre .modulus) n g)) in
+    let first : Within n (2 * n) u v = within-product square (omega arith) (omega arith) in
+    record {
+      within = within-trans first (within-product fourth (omega arith) (omega arith));
+      value =
+          rw (fourth .written, squared)
+          (segment-sets v n (cutProduct p n (cutPower p n g 2) (cutPower p n g 2)) n (length-cutProduct p n (cutPower p n g 2) (cutPower p n g 2))
+          (omega (arith, first .size, pre .room))
+          ∙ power-product (pre .modulus) n g (cut-power (pre .modulus) n g 2) (cut-power (pre .modulus) n g 2));
+      sum = omega (arith, square .places, fourth .places);
+    }
+
+pub squares-first : (p n : ℕ) (w : List ℕ) → Squares p n 1 w w 0
+squares-first p n w = record {
+  within = within-refl n (1 * n) w;
+  value = λ b g value. holds-first value;
+  sum = omega arith;
+}
+
+pub squares-next : {p n rounds i : ℕ} {u v w : List ℕ} {r s : ℕ} → PowerOperands p n rounds u → 0 < i → i < rounds
+    → Squares p n i u v r → Multiplied p n (i * n) (i * n) ((i + 1) * n) v w s → Squares p n (i + 1) u w (r + s)
+squares-next {p} {n} {rounds} {i} {u} {v} {w} pre some below before now =
+    let next = next-place n i in
+    let last : (i + 1 - 1) * n ≡ (i - 1) * n + n = rw (← suc-mul) (ap (λ k. k * n) (omega arith)) in
+    let room : (i + 2) * n ≤ length v = rw (before .within .size) (le-trans (mul-le-mul-right n (omega arith)) (pre .room)) in
+    record {
+      within = within-trans (within-wider (le-refl n) (omega arith) (before .within)) (within-product now (omega arith) (omega arith));
+      value = λ b g value. rw (now .written) (holds-next (pre .modulus) some room (before .value b g value));
+      sum = omega (arith, before .sum, now .places);
+    }
+
+pub powers-none : (p n b : ℕ) (w : List ℕ) → Powers p n b 0 w w 0
+unfolding powersProducts
+powers-none p n b w = record {
+  within = within-refl n ((0 + 1) * n) w;
+  value = record { power = λ i below. absurd (omega arith) };
+  sum = omega arith;
+}
+
+pub powers-made : {p n b rounds : ℕ} {u v w : List ℕ} {r s : ℕ} → 0 < rounds → BasePower p n b u v r → Squares p n rounds v w s
+    → Powers p n b rounds u w (r + s)
+unfolding powersProducts
+powers-made {rounds = zero} some base squares = absurd (omega arith)
+powers-made {p} {n} {b} {rounds = suc rounds} {u} some base squares = record {
+  within = within-trans (wider 2 (omega arith) (base .within)) (wider (suc rounds) (omega arith) (squares .within));
+  value = squares .value b (segment u 0 n) (base .value);
+  sum =
+      let e : suc rounds - 1 ≡ rounds = omega arith in
+      rw (base .sum, squares .sum, e, add-mul);
+}
+  where
+    wider : (k : ℕ) {v w : List ℕ} → k ≤ suc rounds + 1 → Within n (k * n) v w → Within n ((suc rounds + 1) * n) v w
+    wider k fewer h = within-wider (le-refl n) (omega (arith, mul-le-mul-right n fewer)) h

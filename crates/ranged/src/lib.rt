@@ -1,0 +1,129 @@
+// Route 2, ranged Horner (document 004, Algorithm 2): blocks of the outer list by Horner, joined in pairs with powers of the inner list.
+// The inner list stands at place 0 of the work buffer, its powers after it. The joins go depth first, so that few results are kept.
+ghost use mathlib.Core.Path.{_≡_};
+ghost use lib.ListN.{length};
+ghost use Prim.Native.Nat.{_+_, _*_, _^_, _<_, _≤_, min};
+ghost use Rattle.definition.specs.Lists.{ceilDiv};
+ghost use Rattle.definition.specs.Ranged.{block, blockLength};
+ghost use Rattle.definition.specs.Weight.{halvings, rangedWeight};
+ghost use Rattle.horner.specs.Part.{Part};
+ghost use Rattle.route.specs.Contract.{Lent, Route};
+ghost use Rattle.ranged.specs.Joins.{SpanOperands, SpanPart};
+ghost use Rattle.ranged.specs.Kept.{BasePower, PowerOperands, Powers, Squares};
+
+// The number of places of a block.
+const BLOCK_LENGTH: usize = 4;
+
+// The n places from n on become G^4 modulo p, cut to n places, where G are the first n places. The n places after them are used.
+fn fourth_power(p: u32, n: usize, w: &mut [u32]) -> u64
+    requires { ⌜ PowerOperands p n 1 (now w) ⌝ }
+    ensures { λ r. ⌜ BasePower p n blockLength (now (w .entry)) (now (w .exit)) r ⌝ }
+{
+    let weight = product::multiply(p, n, w, 0, 0, 2 * n);
+    weight + product::multiply(p, n, w, 2 * n, 2 * n, n)
+}
+
+// The power at place n is squared, and the square squared, until there are as many powers as rounds, one after the other.
+fn squares(p: u32, n: usize, rounds: usize, w: &mut [u32]) -> u64
+    requires { ⌜ PowerOperands p n rounds (now w) × (0 < rounds) ⌝ }
+    ensures { λ r. ⌜ Squares p n rounds (now (w .entry)) (now (w .exit)) r ⌝ }
+{
+    let mut weight: u64 = 0;
+    let mut i = 1;
+    while i < rounds {
+        weight += product::multiply(p, n, w, i * n, i * n, (i + 1) * n);
+        i += 1;
+    }
+    weight
+}
+
+// The powers of the inner list that so many rounds of joins need: none where there is nothing to join.
+fn powers(p: u32, n: usize, rounds: usize, w: &mut [u32]) -> u64
+    requires { ⌜ PowerOperands p n rounds (now w) ⌝ }
+    ensures { λ r. ⌜ Powers p n blockLength rounds (now (w .entry)) (now (w .exit)) r ⌝ }
+{
+    if rounds == 0 {
+        return 0;
+    }
+    let weight = fourth_power(p, n, w);
+    weight + squares(p, n, rounds, w)
+}
+
+// The number of rounds in which m places, in blocks of b, are joined.
+fn rounds(m: usize, b: usize) -> usize
+    requires { ⌜ (m ≤ 4096) × (0 < b) × (b ≤ 64) ⌝ }
+    ensures { λ r. ⌜ r ≡ halvings (ceilDiv m b) ⌝ }
+{
+    number::halvings(number::rounded_up(m, b))
+}
+
+// 2^level
+fn power_of_two(level: usize) -> usize
+    requires { ⌜ level ≤ 12 ⌝ }
+    ensures { λ r. ⌜ r ≡ 2 ^ level ⌝ }
+{
+    1 << level
+}
+
+// The place where block j of a list of m places begins: m where the list has ended.
+fn block_place(b: usize, j: usize, m: usize) -> usize
+    requires { ⌜ b * j < 2 ^ 64 ⌝ }
+    ensures { λ r. ⌜ r ≡ min (b * j) m ⌝ }
+{
+    number::smaller(b * j, m)
+}
+
+// The n places from t on become f's block j at G modulo p and x^n, by Horner, where G are the first n places. The n places after them are used.
+fn compose_block(p: u32, n: usize, b: usize, f: &[u32], j: usize, w: &mut [u32], t: usize) -> u64
+    requires { ⌜ SpanOperands p n b 0 j t (now f) (now w) ⌝ }
+    ensures { λ r. ⌜ Part p n (block b j (now (f .entry))) 0 t (now (w .entry)) (now (w .exit)) r ⌝ }
+{
+    let start = block_place(b, j, f.len());
+    let end = block_place(b, j + 1, f.len());
+    horner::horner_part(p, n, &f[start..end], w, 0, t)
+}
+
+// The n places from t on become the part of f from block j on, at most 2^level blocks long, at G modulo p and x^n, where G are the first n
+// places and their powers follow them. The even half at t joins with the odd half beside it; without partner it passes on.
+fn compose_span(
+    p: u32,
+    n: usize,
+    b: usize,
+    f: &[u32],
+    level: usize,
+    j: usize,
+    w: &mut [u32],
+    t: usize,
+) -> u64
+    requires { ⌜ SpanOperands p n b level j t (now f) (now w) ⌝ }
+    ensures { λ r. ⌜ SpanPart p n b level j t (now (f .entry)) (now (w .entry)) (now (w .exit)) r ⌝ }
+{
+    if level == 0 {
+        return compose_block(p, n, b, f, j, w, t);
+    }
+    let below = level - 1;
+    let even = compose_span(p, n, b, f, below, j, w, t);
+    let next = j + power_of_two(below);
+    if f.len() <= b * next {
+        return even;
+    }
+    let beside = t + n;
+    let odd = compose_span(p, n, b, f, below, next, w, beside);
+    let power = level * n;
+    even + odd + product::multiply_add(p, n, w, beside, power, t)
+}
+
+// Route 2: f(g) modulo x^n.
+pub fn ranged(p: u32, n: usize, f: &[u32], g: &[u32], out: &mut [u32], w: &mut [u32]) -> u64
+    requires { ⌜ Lent p n (length (now f)) (length (now out)) (length (now w)) ⌝ }
+    ensures { λ r. ⌜ Route p n (now (f .entry)) (now (g .entry)) (rangedWeight blockLength n (length (now (f .entry)))) (now (out .exit)) (now (w .entry)) (now (w .exit)) r ⌝ }
+{
+    let places = route::work_places(n, f.len());
+    let levels = rounds(f.len(), BLOCK_LENGTH);
+    let t = (levels + 1) * n;
+    route::put(g, n, w, 0);
+    let weight = powers(p, n, levels, w);
+    let sum = weight + compose_span(p, n, BLOCK_LENGTH, f, levels, 0, w, t);
+    route::finish(w, t, out, places);
+    sum
+}
