@@ -13,7 +13,7 @@ denominator-requires c κs =
     (lent .modulus, first-rows lent)
 
 halvings-requires : tie.Need-halvings-requires
-halvings-requires c κs = c .before .before .before .before .before .before .before .pre .positive
+halvings-requires c κs = search needs
 
 sub-level : tie.Need-sub-level
 sub-level c = search needs

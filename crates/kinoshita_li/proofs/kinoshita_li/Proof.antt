@@ -43,11 +43,14 @@ returns c =
     none-done (start .args .f .now) (start .args .out .now) (start .args .w .now) (start .pre) (places .work-places .ensures)
     (start .args .g .now) (test .if1 .taken) (put .put-constant .ensures) (finished .finish .ensures)
 
-first-bound-requires : tie.Need-first-bound-requires
-first-bound-requires c κs = omega arith
+sub-smaller : tie.Need-sub-smaller
+sub-smaller c = search needs
+
+smaller-requires : tie.Need-smaller-requires
+smaller-requires c κs = search needs
 
 -- an outer list that is not empty
-module _ (c : tie.After-first-bound) where
+module _ (c : tie.After-smaller) where
   abbrev counted : tie.After-work-places
   counted = c .before .before
 
@@ -60,10 +63,10 @@ module _ (c : tie.After-first-bound) where
   enough : counted .work-places .result ≤ length (start .args .w .now)
   enough = places-inside (start .args .f .now) (start .args .out .now) (start .args .w .now) (start .pre) (counted .work-places .ensures)
 
-  inside : (c .first-bound .result + 1) * start .args .n + start .args .n ≤ counted .work-places .result
+  inside : (c .smaller .result + 1) * start .args .n + start .args .n ≤ counted .work-places .result
   inside =
       rows-inside (start .args .f .now) (start .args .out .now) (start .args .w .now) (start .pre) (counted .work-places .ensures) some
-      (c .first-bound .ensures)
+      (c .smaller .ensures)
 
 slice-relend-prefix-fraction : tie.Need-slice-relend-prefix-fraction
 slice-relend-prefix-fraction c = enough c
@@ -76,10 +79,10 @@ fraction-requires c κs =
     let bound = c .before in
     let args = start bound .args in
     fraction-lent (args .f .now) (args .out .now) (args .w .now) (start bound .pre) (counted bound .work-places .ensures) (some bound)
-    (bound .first-bound .ensures)
+    (bound .smaller .ensures)
 
 add-finish : tie.Need-add-finish
-add-finish c = omega (arith, c .before .before .before .before .before .first-bound .ensures)
+add-finish c = omega (arith, c .before .before .before .before .before .smaller .ensures)
 
 mul-finish : tie.Need-mul-finish
 mul-finish c =
@@ -109,7 +112,7 @@ returns-2 c =
     let bound = called .before .before in
     let args = start bound .args in
     some-done (args .f .now) (args .out .now) (args .w .now) (start bound .pre) (counted bound .work-places .ensures) (some bound)
-    (bound .first-bound .ensures) (called .fraction .kept .1 .1 .1 .1 .1 .0 ∙ length-take-le _ _ (enough bound))
+    (bound .smaller .ensures) (called .fraction .kept .1 .1 .1 .1 .1 .0 ∙ length-take-le _ _ (enough bound))
     (called .fraction .ensures) (finished .finish2 .ensures)
 
 pub kinoshita-li-spec : {M : Type 1} → statement M
@@ -122,7 +125,8 @@ kinoshita-li-spec =
     same-length
     same-length-2
     returns
-    first-bound-requires
+    sub-smaller
+    smaller-requires
     slice-relend-prefix-fraction
     slice-aggregate-fraction
     fraction-requires
