@@ -1,6 +1,6 @@
 -- The division of the last level: a / b as a series in one variable, on one list.
 --
---   reversed            place i of a reversed list
+--   reversed reversed-table   place i of a reversed list, and the table of its places
 --   complement p b      1 - b modulo p, for a series b with constant term 1
 --   complement-suc      its coefficients from power 1 on
 --   Divided             the contract of `divide`
@@ -9,16 +9,16 @@
 --   divided-next        one coefficient more
 --   divided-factor divided   1 - b is written first, and at the end all of a / b
 -- Assumes nothing.
-use Prim.Native.Nat.{ℕ, zero, suc, _+_, _-_, _*_, _%_, _<_, _≤_}
+use Prim.Native.Nat.{ℕ, zero, suc, _+_, _-_, _%_, _<_, _≤_}
 use native.Mathlib.Nat.{add-zero, mul-comm, mul-zero, sub-self}
 use native.Mathlib.Numerals.{add-one}
 use native.Mathlib.Omega.{arith}
 use mathlib.Core.Logic.{inl, inr}
 use mathlib.Core.Path.{_≡_, refl, sym, ap, _∙_}
-use mathlib.Core.List.{List, [], _∷_, _++_, reverse, reverse-cons}
+use mathlib.Core.List.{List, [], _∷_, reverse, reverse-cons}
 use lib.ListN.{length, getD, set, length-append, length-reverse, List·getD-append}
 use lib.Seq.{sets, getD-at, length-sets}
-use Rattle.algebra.specs.Lists.{coefficient-tabulate, length-tabulate, sum-cong}
+use Rattle.algebra.specs.Lists.{coefficient-tabulate, length-tabulate, sum-cong, tabulate-coefficient}
 use Rattle.buffer.specs.Written.{getD-sets-after, getD-sets-inside, sets-snoc}
 use Rattle.definition.specs.KinoshitaLi.{negative, quotient, quotientNext, quotientTerm}
 use Rattle.definition.specs.Lists.{coefficient, sum, tabulate}
@@ -35,6 +35,9 @@ reversed d (x ∷ l) i (suc j) e =
     ap (λ s. getD s i d) (reverse-cons x l)
     ∙ List·getD-append (reverse l) (x ∷ []) d i (rw length-reverse (omega arith))
     ∙ reversed d l i j (omega arith)
+
+pub reversed-table : (f : List ℕ) → tabulate (length f) (coefficient (reverse f)) ≡ reverse f
+reversed-table f = rw (← length-reverse f) (tabulate-coefficient (reverse f))
 
 unfoldable pub complement : ℕ → (ℕ → ℕ) → ℕ → ℕ
 complement p b zero = 0

@@ -7,7 +7,7 @@
 --   window-0           the powers of y from 0 on
 --   planeAt-column     in rows of one place
 -- Assumes nothing.
-use Prim.Native.Nat.{ℕ, _+_, _-_, _*_, _/_, _%_, _<_, _≤_}
+use Prim.Native.Nat.{ℕ, _-_, _*_, _/_, _%_, _<_, _≤_}
 use native.Mathlib.Decide.{decLt}
 use native.Mathlib.Nat.{add-zero, le-of-eq, mod-self, mul-one, sub-zero, zero-add, zero-mod}
 use native.Mathlib.Omega.{arith}

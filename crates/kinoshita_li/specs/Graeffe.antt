@@ -2,6 +2,7 @@
 --
 --   Parts              what `graeffe` and `expand` require: the parts of a level stand in w one after the other
 --   parts-length       they do so in every list of that length
+--   denominatorRows    the rows of Q
 --   Graeffe            the contract of `graeffe`
 --   graeffe-written    what it writes meets it
 --   Expanded           the contract of `expand`
@@ -16,7 +17,7 @@ use mathlib.Core.Path.{_≡_, refl, _∙_}
 use lib.ListN.{length}
 use lib.Seq.{sets, length-sets}
 use Rattle.algebra.specs.Rows.{length-plane}
-use Rattle.definition.specs.KinoshitaLi.{cutProduct2At, evenPart, opposite, plane, planeAt, squared, window}
+use Rattle.definition.specs.KinoshitaLi.{cutProduct2At, evenPart, opposite, plane, squared, window}
 use Rattle.definition.specs.Lists.{ceilDiv}
 use Rattle.product.specs.Double.{productOf}
 use Rattle.product.specs.Planes.{held, held-kept}
@@ -60,7 +61,6 @@ parts-length e o = record {
 abbrev evenProduct : ℕ → (ℕ → ℕ → ℕ) → ℕ → ℕ → ℕ
 evenProduct p a = evenPart (cutProduct2At p a (opposite p a))
 
--- where Q stands
 abbrev pub denominatorRows : Layout → Rows
 denominatorRows s = record { at = 0; count = s .opposite .count }
 

@@ -1,7 +1,7 @@
 -- The parts of a level.
 --
 --   layoutOf r q d m   the parts of a level with order r and bounds q and d, for m places of f
---   Bounded          what `arrange` requires
+--   Bounded            what `arrange` requires
 -- Assumes nothing.
 use Prim.Native.Nat.{ℕ, _+_, _-_, _*_, _^_, _<_, _≤_}
 use Rattle.definition.specs.Lists.{ceilDiv}

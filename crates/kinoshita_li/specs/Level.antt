@@ -4,10 +4,11 @@
 --   Levelled     its contract: the result of the levels stands behind Q, which is kept
 --   order-1      at the last level the order is 1
 --   last-room last-level     the last level
---   level-bounded level-parts level-next level-again   what the layout of a level, its first half, the next level and its second half require
+--   level-bounded level-parts level-next level-again   what the layout of a level, its first half, the next level and its second half
+--                require
 --   level-done   from what they ensure, what the level ensures
 -- Assumes nothing.
-use Prim.Native.Nat.{ℕ, zero, suc, _+_, _-_, _*_, _^_, _<_, _≤_}
+use Prim.Native.Nat.{ℕ, suc, _+_, _-_, _*_, _^_, _<_, _≤_}
 use native.Mathlib.Nat.{le-of-eq, mul-add, mul-comm, mul-le-mul-right, mul-one, pow-suc}
 use native.Mathlib.Numerals.{add-one}
 use native.Mathlib.Omega.{arith}
@@ -18,12 +19,11 @@ use lib.ListN.{length, take, drop, drop-of-length-le, length-drop, length-revers
 use lib.Seq.{sets, length-sets, take-all}
 use Rattle.algebra.specs.KinoshitaLiLists.{graeffe-list, levels-list}
 use Rattle.buffer.specs.Written.{length-part}
-use Rattle.definition.specs.KinoshitaLi.{cutProduct2At, evenPart, opposite, plane, planeAt, quotient, squared, window}
+use Rattle.definition.specs.KinoshitaLi.{opposite, planeAt, quotient}
 use Rattle.definition.specs.Lists.{ceilDiv, coefficient}
 use Rattle.definition.specs.Weight.{degreeBound, kinoshitaLiLevels}
 use Rattle.product.specs.Planes.{held}
-use Rattle.product.specs.Segments.{segment, length-segment, segment-segment}
-use Rattle.product.specs.declared.Rows.{Rows}
+use Rattle.product.specs.Segments.{segment, segment-segment}
 use Rattle.route.specs.Within.{Within, within-rest, within-sets, within-trans, within-wider, segment-rest, segment-sets, segment-within}
 use Rattle.kinoshita_li.specs.Division.{Divided, length-quotient}
 use Rattle.kinoshita_li.specs.Exact.{planeAt-column}

@@ -49,7 +49,8 @@ level-places n m positive order outer =
     omega (
       arith,
       mul-le-mul-left (5 * n + 3) few,
-      level-space n m outer (halvings n) 1 n (min 1 (m - 1)) (m - 1) (omega arith) (omega (arith, covered)) (omega arith) (omega arith) (omega arith) (halvings-covers n),
+      level-space n m outer (halvings n) 1 n (min 1 (m - 1)) (m - 1) (omega arith) (omega (arith, covered)) (omega arith) (omega arith)
+          (omega arith) (halvings-covers n),
     )
   where
     few : halvings n ≤ 12

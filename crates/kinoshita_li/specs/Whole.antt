@@ -3,6 +3,7 @@
 --   FractionLent      what `fraction` requires
 --   Fraction          its contract
 --   first-level       what the first level requires
+--   first-rows        the rows of Q lie in the places lent
 --   fraction-done     the first level leaves f(g)
 --   none-done         the route for an empty outer list
 --   places-inside rows-inside fraction-lent some-done   the route for any other
@@ -80,12 +81,12 @@ module _ {p n q : ℕ} {f w : List ℕ} (lent : FractionLent p n q f w) where
       Q : List ℕ
       Q = plane n (q + 1) (denominator p g)
 
-module _ {p n : ℕ} (f g out w : List ℕ) {places : ℕ} (lent : Lent p n (length f) (length out) (length w))
+module _ {p n : ℕ} (f out w : List ℕ) {places : ℕ} (lent : Lent p n (length f) (length out) (length w))
     (counted : places ≡ composeWork n (length f)) where
-  pub none-done : {v after out′ : List ℕ} → length f ≡ 0 → v ≡ sets w 0 (tabulate n (constant 0)) → Finished 0 places v after out out′
+  pub none-done : (g : List ℕ) {v after out′ : List ℕ} → length f ≡ 0 → v ≡ sets w 0 (tabulate n (constant 0)) → Finished 0 places v after out out′
       → Route p n f g (kinoshitaLiWeight n (length f)) out′ w after 0
   unfolding kinoshitaLiWeight composeWork
-  none-done empty put done =
+  none-done g empty put done =
       route-finished
       (rw put (within-sets w 0 (tabulate n (constant 0)) (le-refl 0) (rw length-tabulate (omega arith))))
       (rw put (written-table w 0 (constant 0) n (omega (arith, lent-places lent))) ∙ zeros)
@@ -117,7 +118,7 @@ module _ {p n : ℕ} (f g out w : List ℕ) {places : ℕ} (lent : Lent p n (len
     }
 
     -- l is what the places lent came back as
-    pub some-done : {l after out′ : List ℕ} {result : ℕ} → length l ≡ places → Fraction p n q f g l result
+    pub some-done : {g l after out′ : List ℕ} {result : ℕ} → length l ≡ places → Fraction p n q f g l result
         → Finished ((q + 1) * n) places (l ++ drop places w) after out out′
         → Route p n f g (kinoshitaLiWeight n (length f)) out′ w after result
     some-done {l} size fraction done =

@@ -3,7 +3,7 @@ use crate::division;
 use crate::rows;
 use product::Rows;
 ghost use mathlib.Core.Path.{_≡_};
-ghost use Prim.Native.Nat.{_-_, _<_, _≤_};
+ghost use Prim.Native.Nat.{_<_, _≤_};
 ghost use Rattle.definition.specs.Weight.{degreeBound};
 ghost use Rattle.kinoshita_li.specs.Graeffe.{Expanded, Graeffe, Parts};
 ghost use Rattle.kinoshita_li.specs.Level.{LevelLent, Levelled};
@@ -14,14 +14,7 @@ fn degree_bound(m: usize, q: usize) -> usize
     requires { ⌜ (q < m) × (m ≤ 4096) ⌝ }
     ensures { λ r. ⌜ r ≡ degreeBound m q ⌝ }
 {
-    if 2 * q < m - 1 { 2 * q } else { m - 1 }
-}
-
-// a - b, or 0 where b is larger.
-fn excess(a: usize, b: usize) -> usize
-    ensures { λ r. ⌜ r ≡ a - b ⌝ }
-{
-    if a < b { 0 } else { a - b }
+    number::smaller(2 * q, m - 1)
 }
 
 // The parts of a level. One after the other stand Q, from place 0 on, the result, Q(-x, y) in as many rows as Q, the rows of a product, and
@@ -46,9 +39,9 @@ fn arrange(r: usize, q: usize, d: usize, m: usize) -> Layout
     requires { ⌜ Bounded r q d m ⌝ }
     ensures { λ s. ⌜ s ≡ layoutOf r q d m ⌝ }
 {
-    let half = (r + 1) / 2;
+    let half = number::rounded_up(r, 2);
     let next = degree_bound(m, q);
-    let low = excess(d, q);
+    let low = number::excess(d, q);
     let count = q + 1;
     let next_count = next + 1;
     let kept = m - d;
@@ -105,7 +98,7 @@ fn expand(p: u32, r: usize, w: &mut [u32], s: Layout) -> u64
     ensures { λ q. ⌜ Expanded p r s (now (w .entry)) (now (w .exit)) q ⌝ }
 {
     let u = s.below;
-    let b = s.opposite;
+    let factor = s.opposite;
     let x = s.product;
     let t = s.result;
     rows::squared(s.half, r, w, u, x.at);
@@ -117,7 +110,7 @@ fn expand(p: u32, r: usize, w: &mut [u32], s: Layout) -> u64
             at: x.at,
             count: u.count,
         },
-        b,
+        factor,
         s.window,
         t,
     )

@@ -3,31 +3,10 @@ mod division;
 mod level;
 mod rows;
 
-ghost use mathlib.Core.Path.{_≡_};
-ghost use Prim.Native.Nat.{_-_, _<_, _≤_, min};
 ghost use lib.ListN.{length};
-ghost use Rattle.definition.specs.Weight.{halvings, kinoshitaLiWeight};
+ghost use Rattle.definition.specs.Weight.{kinoshitaLiWeight};
 ghost use Rattle.kinoshita_li.specs.Whole.{Fraction, FractionLent};
 ghost use Rattle.route.specs.Contract.{Lent, Route};
-
-// K, the number of halvings of the order n.
-fn halvings(n: usize) -> usize
-    requires { ⌜ 0 < n ⌝ }
-    ensures { λ r. ⌜ r ≡ halvings n ⌝ }
-{
-    if n == 1 {
-        return 0;
-    }
-    (64 - usize::leading_zeros(n - 1)) as usize
-}
-
-// The first bound on the degree of Q in y, for m places of f.
-fn first_bound(m: usize) -> usize
-    requires { ⌜ 0 < m ⌝ }
-    ensures { λ r. ⌜ r ≡ min 1 (m - 1) ⌝ }
-{
-    if m == 1 { 0 } else { 1 }
-}
 
 // Leaves f(g) modulo x^n behind the q + 1 rows of Q = 1 - y g.
 fn fraction(p: u32, n: usize, q: usize, f: &[u32], g: &[u32], w: &mut [u32]) -> u64
@@ -35,7 +14,7 @@ fn fraction(p: u32, n: usize, q: usize, f: &[u32], g: &[u32], w: &mut [u32]) -> 
     ensures { λ s. ⌜ Fraction p n q (now (f .entry)) (now (g .entry)) (now (w .exit)) s ⌝ }
 {
     rows::denominator(p, n, q + 1, g, w);
-    level::level(p, halvings(n), n, q, f.len() - 1, f, w)
+    level::level(p, number::halvings(n), n, q, f.len() - 1, f, w)
 }
 
 // Route 4: f(g) modulo x^n.
@@ -50,7 +29,7 @@ pub fn kinoshita_li(p: u32, n: usize, f: &[u32], g: &[u32], out: &mut [u32], w: 
         route::finish(w, 0, out, places);
         return 0;
     }
-    let q = first_bound(m);
+    let q = number::smaller(1, m - 1);
     let weight = fraction(p, n, q, f, g, &mut w[..places]);
     route::finish(w, (q + 1) * n, out, places);
     weight

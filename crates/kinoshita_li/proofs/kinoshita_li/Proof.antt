@@ -1,11 +1,10 @@
 -- `kinoshita_li::kinoshita_li` meets its contract. Assumes nothing.
 use borrow.Author.Needs.{needs}
 use native.Mathlib.Omega.{arith}
-use Prim.Native.Nat.{_+_, _*_, _-_, _<_, _≤_, min}
+use Prim.Native.Nat.{_+_, _*_, _<_, _≤_}
 use lib.ListN.{length}
 use lib.Seq.{length-front, length-take-le}
-use mathlib.Core.Path.{_≡_, sym, _∙_}
-use Rattle.definition.specs.Refusal.{composeWork}
+use mathlib.Core.Path.{sym, _∙_}
 use Rattle.route.specs.Contract.{lent-places}
 use Rattle.kinoshita_li.specs.Whole.{fraction-lent, none-done, places-inside, rows-inside, some-done}
 use Rattle.kinoshita_li.proofs.kinoshita_li.Statement.{statement}
@@ -41,14 +40,17 @@ returns c =
     let test = put .before .before in
     let places = test .before in
     let start = places .before .before .before .before .before in
-    none-done (start .args .f .now) (start .args .g .now) (start .args .out .now) (start .args .w .now) (start .pre)
-    (places .work-places .ensures) (test .if1 .taken) (put .put-constant .ensures) (finished .finish .ensures)
+    none-done (start .args .f .now) (start .args .out .now) (start .args .w .now) (start .pre) (places .work-places .ensures)
+    (start .args .g .now) (test .if1 .taken) (put .put-constant .ensures) (finished .finish .ensures)
 
-first-bound-requires : tie.Need-first-bound-requires
-first-bound-requires c κs = omega arith
+sub-smaller : tie.Need-sub-smaller
+sub-smaller c = search needs
+
+smaller-requires : tie.Need-smaller-requires
+smaller-requires c κs = search needs
 
 -- an outer list that is not empty
-module _ (c : tie.After-first-bound) where
+module _ (c : tie.After-smaller) where
   abbrev counted : tie.After-work-places
   counted = c .before .before
 
@@ -59,12 +61,12 @@ module _ (c : tie.After-first-bound) where
   some = omega arith
 
   enough : counted .work-places .result ≤ length (start .args .w .now)
-  enough = places-inside (start .args .f .now) (start .args .g .now) (start .args .out .now) (start .args .w .now) (start .pre) (counted .work-places .ensures)
+  enough = places-inside (start .args .f .now) (start .args .out .now) (start .args .w .now) (start .pre) (counted .work-places .ensures)
 
-  inside : (c .first-bound .result + 1) * start .args .n + start .args .n ≤ counted .work-places .result
+  inside : (c .smaller .result + 1) * start .args .n + start .args .n ≤ counted .work-places .result
   inside =
-      rows-inside (start .args .f .now) (start .args .g .now) (start .args .out .now) (start .args .w .now) (start .pre)
-      (counted .work-places .ensures) some (c .first-bound .ensures)
+      rows-inside (start .args .f .now) (start .args .out .now) (start .args .w .now) (start .pre) (counted .work-places .ensures) some
+      (c .smaller .ensures)
 
 slice-relend-prefix-fraction : tie.Need-slice-relend-prefix-fraction
 slice-relend-prefix-fraction c = enough c
@@ -76,11 +78,11 @@ fraction-requires : tie.Need-fraction-requires
 fraction-requires c κs =
     let bound = c .before in
     let args = start bound .args in
-    fraction-lent (args .f .now) (args .g .now) (args .out .now) (args .w .now) (start bound .pre) (counted bound .work-places .ensures)
-    (some bound) (bound .first-bound .ensures)
+    fraction-lent (args .f .now) (args .out .now) (args .w .now) (start bound .pre) (counted bound .work-places .ensures) (some bound)
+    (bound .smaller .ensures)
 
 add-finish : tie.Need-add-finish
-add-finish c = omega (arith, c .before .before .before .before .before .first-bound .ensures)
+add-finish c = omega (arith, c .before .before .before .before .before .smaller .ensures)
 
 mul-finish : tie.Need-mul-finish
 mul-finish c =
@@ -91,7 +93,10 @@ finish-requires-2 : tie.Need-finish-requires-2
 finish-requires-2 c κs =
     let called = c .before .before .before .before in
     let bound = called .before .before in
-    let size = length-front (start bound .args .w .now) (called .fraction .last .1 .1 .1 .1 .1 .0) (counted bound .work-places .result) (called .fraction .kept .1 .1 .1 .1 .1 .0) in
+    let came = called .fraction in
+    let size =
+    length-front (start bound .args .w .now) (came .last .1 .1 .1 .1 .1 .0) (counted bound .work-places .result)
+    (came .kept .1 .1 .1 .1 .1 .0) in
     (omega (arith, size, inside bound, enough bound, start bound .pre .output), omega (arith, size, enough bound))
 
 same-length-3 : tie.Need-same-length-3
@@ -106,8 +111,9 @@ returns-2 c =
     let called = finished .before .before .before .before .before in
     let bound = called .before .before in
     let args = start bound .args in
-    some-done (args .f .now) (args .g .now) (args .out .now) (args .w .now) (start bound .pre) (counted bound .work-places .ensures)
-    (some bound) (bound .first-bound .ensures) (called .fraction .kept .1 .1 .1 .1 .1 .0 ∙ length-take-le _ _ (enough bound)) (called .fraction .ensures) (finished .finish2 .ensures)
+    some-done (args .f .now) (args .out .now) (args .w .now) (start bound .pre) (counted bound .work-places .ensures) (some bound)
+    (bound .smaller .ensures) (called .fraction .kept .1 .1 .1 .1 .1 .0 ∙ length-take-le _ _ (enough bound))
+    (called .fraction .ensures) (finished .finish2 .ensures)
 
 pub kinoshita-li-spec : {M : Type 1} → statement M
 kinoshita-li-spec =
@@ -119,7 +125,8 @@ kinoshita-li-spec =
     same-length
     same-length-2
     returns
-    first-bound-requires
+    sub-smaller
+    smaller-requires
     slice-relend-prefix-fraction
     slice-aggregate-fraction
     fraction-requires

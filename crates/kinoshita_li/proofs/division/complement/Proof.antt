@@ -1,27 +1,24 @@
--- `kinoshita_li::division::complement` meets its contract: after k turns the first k places are written. Assumes nothing.
+-- `kinoshita_li::division::complement` meets its contract. Assumes nothing.
 use borrow.Author.Needs.{needs}
 use native.Mathlib.Omega.{arith}
-use Prim.Native.Nat.{_-_, _≤_}
-use lib.ListN.{length}
-use lib.Seq.{sets, length-take-le}
-use mathlib.Core.Path.{_≡_, sym, _∙_}
-use Rattle.algebra.specs.Lists.{length-tabulate}
-use Rattle.definition.specs.Lists.{coefficient, tabulate}
-use Rattle.product.specs.Segments.{segment, segment-kept}
-use Rattle.route.specs.Table.{table-first, table-next}
+use Prim.Native.Nat.{_-_}
+use lib.Seq.{length-take-le}
+use mathlib.Core.Path.{sym, _∙_}
+use Rattle.definition.specs.Lists.{coefficient}
+use Rattle.product.specs.Segments.{segment}
 use Rattle.kinoshita_li.specs.Division.{complement}
+use Rattle.kinoshita_li.specs.Filling.{Filling, filling-first, filling-kept, filling-last, filling-next}
 use Rattle.kinoshita_li.proofs.division.complement.Statement.{statement}
 use Rattle.kinoshita_li.proofs.division.complement.Tie as tie
 
 abbrev Inv-loop : tie.InvT-loop
-Inv-loop p m count w₀ t k₀ w k =
-    (k ≤ m) × (length w ≡ length w₀) × (w ≡ sets w₀ t (tabulate k (complement p (coefficient (segment w₀ 0 count)))))
+Inv-loop p m count w₀ t k₀ w k = Filling (complement p (coefficient (segment w₀ 0 count))) t m w₀ w k
 
 abbrev μ-loop : tie.MeasureT-loop
 μ-loop p m count w₀ t k₀ w k = m - k
 
 loop-holds : tie.Need-loop-holds Inv-loop μ-loop
-loop-holds c = (search needs, search needs, table-first _ _ _)
+loop-holds c = filling-first _ _ _ _
 
 slice-reshare-prefix-complement-place :
     tie.Need-slice-reshare-prefix-complement-place Inv-loop μ-loop
@@ -50,28 +47,16 @@ loop-less c = search needs
 
 loop-again : tie.Need-loop-again Inv-loop μ-loop
 loop-again c =
-    let at = c .before .before .before in
-    let start = at .before .before in
-    let args = start .args in
-    let b = complement (args .p) (coefficient (segment (args .w .now) 0 (args .count))) in (
-      search needs,
-      search needs,
-      rw (
-        c .complement-place .ensures,
-        at .loop .inv .2,
-        segment-kept (start .pre .1) (tabulate (at .loop .k) b) (rw length-tabulate (omega arith)),
-      )
-          (table-next (args .w .now) (args .t) b (at .loop .k)),
-    )
+    let turn = c .before .before in
+    let filling = turn .before .loop .inv in
+    let start = turn .before .before .before in
+    filling-next filling (turn .loop-test .taken) (c .complement-place .ensures ∙ rw (filling-kept filling (start .pre .1)))
 
 same-length : tie.Need-same-length Inv-loop μ-loop
 same-length c = search needs
 
 returns : tie.Need-returns Inv-loop μ-loop
-returns c =
-    let at = c .before in
-    let all : at .loop .k ≡ at .before .before .args .m = omega arith in
-    at .loop .inv .2 ∙ rw all
+returns c = filling-last (c .before .loop .inv) (c .loop-test .left)
 
 pub complement-spec : {M : Type 1} → statement M
 complement-spec =

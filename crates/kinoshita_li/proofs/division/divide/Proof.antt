@@ -6,7 +6,7 @@ use Prim.Native.Nat.{_-_, _≤_}
 use native.Mathlib.Nat.{add-sub-cancel-left}
 use lib.ListN.{length}
 use mathlib.Core.Logic.{inl}
-use mathlib.Core.Path.{_≡_, refl, _∙_}
+use mathlib.Core.Path.{_≡_, refl}
 use Rattle.definition.specs.KinoshitaLi.{quotient}
 use Rattle.kinoshita_li.specs.Division.{dividedFirst, divided-next, divided-factor, divided}
 use Rattle.kinoshita_li.proofs.division.divide.Statement.{statement}

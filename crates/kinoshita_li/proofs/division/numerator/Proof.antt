@@ -1,25 +1,24 @@
--- `kinoshita_li::division::numerator` meets its contract: after k turns the first k places of the reversed list are written.
--- Assumes nothing.
+-- `kinoshita_li::division::numerator` meets its contract. Assumes nothing.
 use borrow.Author.Needs.{needs}
 use native.Mathlib.Omega.{arith}
-use Prim.Native.Nat.{_-_, _≤_}
-use lib.ListN.{length, take, length-reverse}
-use lib.Seq.{sets, take-all}
+use Prim.Native.Nat.{_-_}
+use lib.ListN.{length}
 use mathlib.Core.List.{reverse}
-use mathlib.Core.Path.{_≡_, _∙_}
-use Rattle.buffer.specs.Written.{sets-take}
-use Rattle.kinoshita_li.specs.Division.{reversed}
+use mathlib.Core.Path.{sym, _∙_}
+use Rattle.definition.specs.Lists.{coefficient}
+use Rattle.kinoshita_li.specs.Division.{reversed, reversed-table}
+use Rattle.kinoshita_li.specs.Filling.{Filling, filling-first, filling-last, filling-next}
 use Rattle.kinoshita_li.proofs.division.numerator.Statement.{statement}
 use Rattle.kinoshita_li.proofs.division.numerator.Tie as tie
 
 abbrev Inv-loop : tie.InvT-loop
-Inv-loop f w₀ t m k₀ w k = (k ≤ length f) × (length w ≡ length w₀) × (w ≡ sets w₀ t (take k (reverse f)))
+Inv-loop f w₀ t m k₀ w k = Filling (coefficient (reverse f)) t (length f) w₀ w k
 
 abbrev μ-loop : tie.MeasureT-loop
 μ-loop f w₀ t m k₀ w k = length f - k
 
 loop-holds : tie.Need-loop-holds Inv-loop μ-loop
-loop-holds c = search needs
+loop-holds c = filling-first _ _ _ _
 
 sub-w : tie.Need-sub-w Inv-loop μ-loop
 sub-w c = search needs
@@ -49,27 +48,18 @@ loop-less : tie.Need-loop-less Inv-loop μ-loop
 loop-less c = search needs
 
 loop-again : tie.Need-loop-again Inv-loop μ-loop
+unfolding coefficient
 loop-again c =
-    let at = c .before .before in
-    let args = at .before .args in
-    let size : length (reverse (args .f .now)) ≡ length (args .f .now) = length-reverse (args .f .now) in (
-      search needs,
-      search needs,
-      rw (
-        at .loop .inv .2,
-        ← reversed 0 (args .f .now) (at .loop .k) (length (args .f .now) - 1 - at .loop .k) (omega arith),
-      )
-          (sets-take (args .w .now) (args .t) (reverse (args .f .now)) (at .loop .k) 0 (omega arith)),
-    )
+    let turn = c .before in
+    let f = turn .before .before .args .f .now in
+    let k = turn .before .loop .k in
+    filling-next (turn .before .loop .inv) (turn .loop-test .taken) (sym (reversed 0 f k (length f - 1 - k) (omega arith)))
 
 same-length : tie.Need-same-length Inv-loop μ-loop
 same-length c = search needs
 
 returns : tie.Need-returns Inv-loop μ-loop
-returns c =
-    let at = c .before in
-    let f = at .before .args .f .now in
-    at .loop .inv .2 ∙ rw (take-all (at .loop .k) (reverse f) (omega (arith, length-reverse f)))
+returns c = filling-last (c .before .loop .inv) (c .loop-test .left) ∙ rw reversed-table
 
 pub numerator-spec : {M : Type 1} → statement M
 numerator-spec =

@@ -2,7 +2,7 @@
 use Prim.Native.Nat.{ℕ, suc, _+_, _-_, _<_, _≤_}
 use native.Mathlib.Omega.{arith}
 use lib.ListN.{length}
-use mathlib.Core.Path.{_≡_, _∙_}
+use mathlib.Core.Path.{_≡_}
 use borrow.Author.Needs.{needs}
 use borrow.Fn.Kinds.{In}
 use borrow.Fn.PlainCycle.{Measures, is, falls, and}
@@ -98,14 +98,19 @@ module _ (t : ℕ) where
   level-requires : level-lts.Need-level-requires (claims t) (level-at t) level.Post
   level-requires c κs =
       let called = c .before .before .before in
-      let placed = called .before .before in
-      (omega arith, level-next (begin placed .pre .1) (deeper (placed .before)) (placed .arrange .ensures) (called .graeffe .last .1 .1 .0) (called .graeffe .ensures .within .size))
+      let placed = called .before .before in (
+        omega arith,
+        level-next (begin placed .pre .1) (deeper (placed .before)) (placed .arrange .ensures) (called .graeffe .last .1 .1 .0)
+            (called .graeffe .ensures .within .size),
+      )
 
   expand-requires : level-lts.Need-expand-requires (claims t) (level-at t) level.Post
   expand-requires c κs =
-      let called = c .before .before .before in
-      let placed = called .before .before .before .before .before .before in
-      level-again (begin placed .pre .1) (deeper (placed .before)) (placed .arrange .ensures) (called .before .before .before .before .graeffe .ensures) (called .level .ensures)
+      let below = c .before .before .before in
+      let down = below .before .before .before .before in
+      let placed = down .before .before in
+      level-again (begin placed .pre .1) (deeper (placed .before)) (placed .arrange .ensures) (down .graeffe .ensures)
+      (below .level .ensures)
 
   module _ (c : level-lts.After-slice-known5 (claims t) (level-at t) level.Post) where
     abbrev up : level-lts.After-expand (claims t) (level-at t) level.Post
@@ -120,8 +125,14 @@ module _ (t : ℕ) where
     abbrev placed : level-lts.After-arrange (claims t) (level-at t) level.Post
     placed = down .before .before
 
-    done : Levelled (begin placed .args .p) (begin placed .args .levels) (begin placed .args .r) (begin placed .args .q) (begin placed .args .d) (begin placed .args .f .now) (begin placed .args .w .now) (up .expand .last .1 .1 .0) (down .graeffe .result + below .level .result + up .expand .result)
-    done = level-done (begin placed .pre .1) (deeper (placed .before)) (placed .arrange .ensures) (down .graeffe .ensures) (below .level .ensures) (up .expand .ensures)
+    abbrev args : level-lts.Args (claims t) (level-at t) level.Post (begin placed .κs)
+    args = begin placed .args
+
+    done : Levelled (args .p) (args .levels) (args .r) (args .q) (args .d) (args .f .now) (args .w .now) (up .expand .last .1 .1 .0)
+        (down .graeffe .result + below .level .result + up .expand .result)
+    done =
+        level-done (begin placed .pre .1) (deeper (placed .before)) (placed .arrange .ensures) (down .graeffe .ensures)
+        (below .level .ensures) (up .expand .ensures)
 
   add-result : level-lts.Need-add-result (claims t) (level-at t) level.Post
   add-result c = omega (arith, done c .fits, begin (placed c) .good)

@@ -1,18 +1,16 @@
--- `kinoshita_li::rows::denominator` meets its contract: after k turns the first k places are written. Assumes nothing.
+-- `kinoshita_li::rows::denominator` meets its contract. Assumes nothing.
 use borrow.Author.Needs.{needs}
 use native.Mathlib.Omega.{arith}
-use Prim.Native.Nat.{_*_, _-_, _≤_}
+use Prim.Native.Nat.{_*_, _-_}
 use native.Mathlib.Nat.{zero-add}
-use lib.ListN.{length}
-use mathlib.Core.Path.{_≡_, _∙_}
-use Rattle.definition.specs.KinoshitaLi.{denominator}
-use Rattle.kinoshita_li.specs.Steps.{planeFirst, plane-first, plane-next, plane-last, row-positive}
+use Rattle.definition.specs.KinoshitaLi.{denominator, plane, planePlace}
+use Rattle.kinoshita_li.specs.Filling.{Filling, filling-first, filling-last, filling-next}
+use Rattle.kinoshita_li.specs.Steps.{row-positive}
 use Rattle.kinoshita_li.proofs.rows.denominator.Statement.{statement}
 use Rattle.kinoshita_li.proofs.rows.denominator.Tie as tie
 
 abbrev Inv-loop : tie.InvT-loop
-Inv-loop p n count g w₀ places k₀ w k =
-    (k ≤ count * n) × (length w ≡ length w₀) × (w ≡ planeFirst n (denominator p g) w₀ 0 k)
+Inv-loop p n count g w₀ places k₀ w k = Filling (planePlace n (denominator p g)) 0 (count * n) w₀ w k
 
 abbrev μ-loop : tie.MeasureT-loop
 μ-loop p n count g w₀ places k₀ w k = count * n - k
@@ -21,7 +19,7 @@ mul-places : tie.Need-mul-places Inv-loop μ-loop
 mul-places c = search needs
 
 loop-holds : tie.Need-loop-holds Inv-loop μ-loop
-loop-holds c = (search needs, search needs, plane-first _ _ _ _)
+loop-holds c = filling-first _ _ _ _
 
 div-denominator-place : tie.Need-div-denominator-place Inv-loop μ-loop
 div-denominator-place c = omega (arith, row-positive _ _ _ (c .loop-test .taken))
@@ -45,24 +43,17 @@ loop-less : tie.Need-loop-less Inv-loop μ-loop
 loop-less c = search needs
 
 loop-again : tie.Need-loop-again Inv-loop μ-loop
+unfolding planePlace
 loop-again c =
-    let at = c .before .before in
-    let args = at .before .before .before .args in (
-      search needs,
-      search needs,
-      rw (c .denominator-place .ensures, at .loop .inv .2)
-          (rw zero-add at (plane-next (args .n) (denominator (args .p) (args .g .now)) (args .w .now) 0 (at .loop .k))),
-    )
+    let turn = c .before in
+    rw zero-add at (filling-next (turn .before .loop .inv) (turn .loop-test .taken) (c .denominator-place .ensures))
 
 same-length : tie.Need-same-length Inv-loop μ-loop
 same-length c = search needs
 
 returns : tie.Need-returns Inv-loop μ-loop
-returns c =
-    let at = c .before in
-    let args = at .before .before .before .args in
-    let all : at .loop .k ≡ args .count * args .n = omega arith in
-    at .loop .inv .2 ∙ rw all (plane-last _ _ _ _ _)
+unfolding plane
+returns c = filling-last (c .before .loop .inv) (c .loop-test .left)
 
 pub denominator-spec : {M : Type 1} → statement M
 denominator-spec =

@@ -1,5 +1,4 @@
 -- `kinoshita_li::rows::held_place` meets its contract: a place of the list where the rows have one, else 0. Assumes nothing.
-use borrow.Author.Needs.{needs}
 use native.Mathlib.Omega.{arith}
 use Prim.Native.Nat.{_+_, _*_, _<_}
 use lib.ListN.{length}

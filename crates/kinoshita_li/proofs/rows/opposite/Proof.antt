@@ -1,17 +1,17 @@
--- `kinoshita_li::rows::opposite` meets its contract: after k turns the first k places are written. Assumes nothing.
+-- `kinoshita_li::rows::opposite` meets its contract. Assumes nothing.
 use borrow.Author.Needs.{needs}
 use native.Mathlib.Omega.{arith}
-use Prim.Native.Nat.{_*_, _-_, _≤_}
-use lib.ListN.{length}
-use mathlib.Core.Path.{_≡_, _∙_}
-use Rattle.definition.specs.KinoshitaLi.{opposite, planePlace}
+use Prim.Native.Nat.{_*_, _-_}
+use mathlib.Core.Path.{_∙_}
+use Rattle.definition.specs.KinoshitaLi.{opposite, plane, planePlace}
 use Rattle.product.specs.Planes.{held}
-use Rattle.kinoshita_li.specs.Steps.{planeFirst, plane-first, plane-next, plane-last, row-positive, source-kept}
+use Rattle.kinoshita_li.specs.Filling.{Filling, filling-first, filling-held, filling-last, filling-next}
+use Rattle.kinoshita_li.specs.Steps.{row-positive}
 use Rattle.kinoshita_li.proofs.rows.opposite.Statement.{statement}
 use Rattle.kinoshita_li.proofs.rows.opposite.Tie as tie
 
 abbrev Inv-loop : tie.InvT-loop
-Inv-loop p r w₀ a t places k₀ w k = (k ≤ a .count * r) × (length w ≡ length w₀) × (w ≡ planeFirst r (opposite p (held r w₀ a)) w₀ t k)
+Inv-loop p r w₀ a t places k₀ w k = Filling (planePlace r (opposite p (held r w₀ a))) t (a .count * r) w₀ w k
 
 abbrev μ-loop : tie.MeasureT-loop
 μ-loop p r w₀ a t places k₀ w k = a .count * r - k
@@ -20,7 +20,7 @@ mul-places : tie.Need-mul-places Inv-loop μ-loop
 mul-places c = search needs
 
 loop-holds : tie.Need-loop-holds Inv-loop μ-loop
-loop-holds c = (search needs, search needs, plane-first _ _ _ _)
+loop-holds c = filling-first _ _ _ _
 
 div-opposite-place : tie.Need-div-opposite-place Inv-loop μ-loop
 div-opposite-place c = omega (arith, row-positive _ _ _ (c .before .loop-test .taken))
@@ -47,23 +47,20 @@ loop-less : tie.Need-loop-less Inv-loop μ-loop
 loop-less c = search needs
 
 loop-again : tie.Need-loop-again Inv-loop μ-loop
+unfolding planePlace
 loop-again c =
-    let at = c .before .before .before in
-    let args = at .before .before .before .args in (
-      search needs,
-      search needs,
-      rw (c .opposite-place .ensures, at .loop .inv .2, source-kept (args .r) (args .w .now) (args .a) (at .before .before .before .pre .1) (planePlace (args .r) (opposite (args .p) (held (args .r) (args .w .now) (args .a)))) (at .loop .k) (omega arith)) (plane-next (args .r) (opposite (args .p) (held (args .r) (args .w .now) (args .a))) (args .w .now) (args .t) (at .loop .k)),
-    )
+    let turn = c .before .before in
+    let filling = turn .before .loop .inv in
+    let start = turn .before .before .before .before in
+    filling-next filling (turn .loop-test .taken)
+    (c .opposite-place .ensures ∙ rw (filling-held filling (start .args .r) (start .args .a) (start .pre .1)))
 
 same-length : tie.Need-same-length Inv-loop μ-loop
 same-length c = search needs
 
 returns : tie.Need-returns Inv-loop μ-loop
-returns c =
-    let at = c .before in
-    let args = at .before .before .before .args in
-    let all : at .loop .k ≡ args .a .count * args .r = omega arith in
-    at .loop .inv .2 ∙ rw all (plane-last _ _ _ _ _)
+unfolding plane
+returns c = filling-last (c .before .loop .inv) (c .loop-test .left)
 
 pub opposite-spec : {M : Type 1} → statement M
 opposite-spec =

@@ -1,7 +1,6 @@
 -- `kinoshita_li::rows::squared_place` meets its contract, by the parity of i. Assumes nothing.
 use borrow.Author.Needs.{needs}
 use borrow.Author.Tests.{eq-eqb, ne-eqb}
-use mathlib.Core.Path.{_∙_}
 use Rattle.definition.specs.Bernstein.{spread}
 use Rattle.definition.specs.KinoshitaLi.{squared}
 use Rattle.kinoshita_li.proofs.rows.squared_place.Statement.{statement}
