@@ -13,9 +13,9 @@ use native.Mathlib.Nat.{add-assoc}
 use native.Mathlib.Omega.{arith}
 use mathlib.Core.Logic.{inl, inr}
 use mathlib.Core.Path.{_≡_, sym, ap, _∙_}
-use mathlib.Core.List.{List, _++_, append-nil}
-use lib.ListN.{length, take, drop, length-drop, drop-of-length-le}
-use lib.Seq.{sets, drop-drop, take-all}
+use mathlib.Core.List.{List, _++_}
+use lib.ListN.{length, take, drop, length-drop}
+use lib.Seq.{sets, drop-drop}
 use Rattle.algebra.specs.Lists.{length-tabulate}
 use Rattle.bernstein.specs.Counts.{ceilDiv-half, ceilDiv-positive, partCount-half}
 use Rattle.bernstein.specs.Level.{Level, Parted, PartReady, PartValue, Room, nextAt, restAt}
@@ -24,7 +24,7 @@ use Rattle.buffer.specs.Written.{length-part}
 use Rattle.definition.specs.Bernstein.{part, partAt, partCount, pthPowers, spread, spreadList}
 use Rattle.definition.specs.Lists.{ceilDiv, coefficient}
 use Rattle.product.specs.Segments.{segment, Apart, segment-segment}
-use Rattle.route.specs.Within.{Within, within-trans, within-wider, within-sets, within-rest, segment-within, segment-sets, segment-rest}
+use Rattle.route.specs.Within.{Within, rest-back, rest-lent, within-trans, within-wider, within-sets, within-rest, segment-within, segment-sets, segment-rest}
 
 length-spread : (p n : ℕ) (s : List ℕ) → length (spreadList p n s) ≡ n
 unfolding spreadList
@@ -65,27 +65,24 @@ module _ {p n m j order : ℕ} {w : List ℕ} (ready : PartReady p n m j w) (rou
     abbrev lent : List ℕ
     lent = take (length v - restAt n m) (drop (restAt n m) v)
 
-    lent-all : lent ≡ drop (restAt n m) v
-    lent-all = take-all (length v - restAt n m) (drop (restAt n m) v) (rw length-drop (omega arith))
-
     pub room-rest : Room p order count lent
     room-rest = record {
       prime = ready .room .prime;
       positive = rw rounded (ceilDiv-positive (ready .room .prime .above-one) n (ready .room .positive));
       order = omega (arith, half-order);
       outer = omega (arith, half-count);
-      room = rw (lent-all, length-drop, part-within .size) (omega (arith, rest-fits));
+      room = rw (rest-lent, length-drop, part-within .size) (omega (arith, rest-fits));
     }
 
     -- what the next level is given: the part, and h
     given-part : segment lent order count ≡ part p j f
     given-part =
-        rw (lent-all, drop-drop, parted .written)
+        rw (rest-lent, drop-drop, parted .written)
         (segment-sets w (restAt n m + order) (part p j f) count length-of-part (omega (arith, rest-fits)))
 
     given-powers : segment lent 0 order ≡ pthPowers p (take order (segment w 0 n))
     given-powers =
-        ap (take order) lent-all
+        ap (take order) (rest-lent (restAt n m) v)
         ∙ segment-within part-within (restAt n m) order (inl (omega arith))
         ∙ (rw (← rounded) at (ready .powers))
         ∙ ap (pthPowers p) (sym (segment-segment w 0 n 0 order (omega (arith, half-order))))
@@ -95,13 +92,9 @@ module _ {p n m j order : ℕ} {w : List ℕ} (ready : PartReady p n m j w) (rou
       abbrev back : List ℕ
       back = take (restAt n m) v ++ (rest ++ drop (length v - restAt n m) (drop (restAt n m) v))
 
-      back-all : back ≡ take (restAt n m) v ++ rest
-      back-all =
-          rw (drop-of-length-le (drop (restAt n m) v) {i = length v - restAt n m} (rw length-drop (omega arith)), append-nil)
-
       rest-within : Within (restAt n m + (order + count)) (5 * (order + count)) v back
       rest-within =
-          rw back-all (within-rest (restAt n m) v rest (omega (arith, part-within .size)) (rw lent-all at (below .within)))
+          rw rest-back (within-rest (restAt n m) v rest (omega (arith, part-within .size)) (rw rest-lent at (below .within)))
 
       pub room-spread : Apart back (restAt n m + order + count) order (nextAt n m) n
       room-spread = record {
@@ -112,7 +105,7 @@ module _ {p n m j order : ℕ} {w : List ℕ} (ready : PartReady p n m j w) (rou
 
       value : segment back (restAt n m + order + count) order ≡ composedPart p n f (segment w 0 n) j
       value =
-          rw (back-all, add-assoc) (segment-rest (restAt n m) v rest (order + count) order (omega (arith, part-within .size)))
+          rw (rest-back, add-assoc) (segment-rest (restAt n m) v rest (order + count) order (omega (arith, part-within .size)))
           ∙ below .value
           ∙ rw (given-part, given-powers, rounded)
 

@@ -10,7 +10,7 @@
 --   running-first              the top coefficient
 --   running-last               all coefficients
 -- Assumes nothing.
-use Prim.Native.Nat.{ℕ, suc, _+_, _-_, _*_, _%_, _^_, _<_, _≤_}
+use Prim.Native.Nat.{ℕ, suc, _+_, _-_, _*_, _%_, _<_, _≤_}
 use native.Mathlib.Nat.{add-zero, le-refl, mul-le-mul, suc-mul, zero-add}
 use native.Mathlib.Omega.{arith}
 use mathlib.Core.Logic.{inl}

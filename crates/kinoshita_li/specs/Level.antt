@@ -9,13 +9,13 @@
 --   level-done   from what they ensure, what the level ensures
 -- Assumes nothing.
 use Prim.Native.Nat.{ℕ, suc, _+_, _-_, _*_, _^_, _<_, _≤_}
-use native.Mathlib.Nat.{le-of-eq, mul-add, mul-comm, mul-le-mul-right, mul-one, pow-suc}
+use native.Mathlib.Nat.{mul-add, mul-comm, mul-le-mul-right, mul-one, pow-suc}
 use native.Mathlib.Numerals.{add-one}
 use native.Mathlib.Omega.{arith}
-use mathlib.Core.List.{List, _++_, append-nil, reverse}
+use mathlib.Core.List.{List, _++_, reverse}
 use mathlib.Core.Logic.{inl}
 use mathlib.Core.Path.{_≡_, refl, sym, ap, _∙_}
-use lib.ListN.{length, take, drop, drop-of-length-le, length-drop, length-reverse}
+use lib.ListN.{length, take, drop, length-drop, length-reverse}
 use lib.Seq.{sets, length-sets, take-all}
 use Rattle.algebra.specs.KinoshitaLiLists.{graeffe-list, levels-list}
 use Rattle.buffer.specs.Written.{length-part}
@@ -24,7 +24,7 @@ use Rattle.definition.specs.Lists.{ceilDiv, coefficient}
 use Rattle.definition.specs.Weight.{degreeBound, kinoshitaLiLevels}
 use Rattle.product.specs.Planes.{held}
 use Rattle.product.specs.Segments.{segment, segment-segment}
-use Rattle.route.specs.Within.{Within, within-rest, within-sets, within-trans, within-wider, segment-rest, segment-sets, segment-within}
+use Rattle.route.specs.Within.{Within, rest-back, rest-lent, within-rest, within-sets, within-trans, within-wider, segment-rest, segment-sets, segment-within}
 use Rattle.kinoshita_li.specs.Division.{Divided, length-quotient}
 use Rattle.kinoshita_li.specs.Exact.{planeAt-column}
 use Rattle.kinoshita_li.specs.Graeffe.{Expanded, Graeffe, Parts, parts-length}
@@ -218,13 +218,6 @@ module _ {p levels K r q d : ℕ} {f w : List ℕ} (lent : LevelLent p levels r 
             mul-comm r (length f - d),
           );
     }
-
--- the rest of a list from place k on, as it is lent, and come back as l
-rest-lent : (k : ℕ) (v : List ℕ) → segment v k (length v - k) ≡ drop k v
-rest-lent k v = take-all (length v - k) (drop k v) (le-of-eq (length-drop k v))
-
-rest-back : (k : ℕ) (v l : List ℕ) → take k v ++ (l ++ drop (length v - k) (drop k v)) ≡ take k v ++ l
-rest-back k v l = rw (drop-of-length-le (drop k v) (le-of-eq (length-drop k v)), append-nil)
 
 module _ {p levels K r q d : ℕ} {f w : List ℕ} {s : Layout} (lent : LevelLent p levels r q d f w) (deeper : levels ≡ suc K)
     (placed : s ≡ layoutOf r q d (length f)) where

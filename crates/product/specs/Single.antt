@@ -5,6 +5,7 @@
 --   Multiplied                the contract of `multiply`
 --   MultipliedAdd             the contract of `multiply_add`
 --   addedProduct p n a b t w  its target after the call: the n places from t on, plus the product of those from a and from b on
+--   length-joined             a sum with a product has n places
 --   added-all                 this is a list of n places
 --   added-next                one place more of it is written
 --   added-over                it over a target that was written before
@@ -49,7 +50,7 @@ pub record MultipliedAdd (p n a b t : ℕ) (before after : List ℕ) (result : �
   pub written : after ≡ sets before t (addedProduct p n a b t before)
   pub places : result ≡ n
 
-length-joined : (p n : ℕ) (s u v : List ℕ) → length (joined p n s u v) ≡ n
+pub length-joined : (p n : ℕ) (s u v : List ℕ) → length (joined p n s u v) ≡ n
 unfolding joined
 length-joined p n s u v = length-tabulate n (joinedAt p s u v)
 

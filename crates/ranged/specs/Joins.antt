@@ -24,13 +24,12 @@ use mathlib.Core.Logic.{inl, inr}
 use mathlib.Core.Path.{_≡_, ap, _∙_}
 use lib.ListN.{length}
 use lib.Pow.{pow-mono}
-use Rattle.algebra.specs.Lists.{length-tabulate}
-use Rattle.definition.specs.Ranged.{block, cutPower, joined, joinedAt}
+use Rattle.definition.specs.Ranged.{block, cutPower}
 use Rattle.definition.specs.Substitution.{composed}
 use Rattle.definition.specs.Weight.{hornerWeight}
 use Rattle.horner.specs.Part.{Part, PartOperands}
 use Rattle.product.specs.Segments.{segment}
-use Rattle.product.specs.Single.{MultipliedAdd, Operands, addedProduct}
+use Rattle.product.specs.Single.{MultipliedAdd, Operands, addedProduct, length-joined}
 use Rattle.route.specs.Within.{Within, segment-sets, segment-within, within-sets, within-trans, within-wider}
 use Rattle.ranged.specs.Kept.{Holds, holds-within, next-place}
 use Rattle.ranged.specs.Spans.{length-block, length-span, span, span-alone, span-block, span-composed, span-weight}
@@ -52,10 +51,6 @@ pub record SpanPart (p n b level j t : ℕ) (f before after : List ℕ) (result 
   pub within : Within t ((level + 2) * n) before after
   pub value : segment after t n ≡ composed p n (span b level j f) (segment before 0 n)
   pub sum : result ≡ hornerWeight n (length (span b level j f))
-
-length-joined : (p n : ℕ) (s t u : List ℕ) → length (joined p n s t u) ≡ n
-unfolding joined
-length-joined p n s t u = length-tabulate n (joinedAt p s t u)
 
 pub part-operands : {p n b j t : ℕ} {f w : List ℕ} → SpanOperands p n b 0 j t f w → PartOperands p n (block b j f) 0 t w
 part-operands {b = b} {j} {f = f} pre = record {

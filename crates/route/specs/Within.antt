@@ -4,6 +4,7 @@
 --   within-refl within-trans  no change, and one change after another
 --   within-wider              a change within some places is one within more
 --   within-sets               a write
+--   rest-lent rest-back       the rest from place k on, as it is lent, and come back
 --   within-rest               a change in the rest from place k on, which was lent on
 --   segment-within            a segment apart from the change is as it was
 --   segment-sets              the segment that a write filled
@@ -11,13 +12,13 @@
 --   cleared-within            clearing the first n places clears a change within them
 -- Assumes nothing.
 use Prim.Native.Nat.{ℕ, _+_, _-_, _≤_}
-use native.Mathlib.Nat.{add-assoc, zero-add}
+use native.Mathlib.Nat.{add-assoc, le-of-eq, zero-add}
 use native.Mathlib.Omega.{arith}
 use mathlib.Core.Logic.{_⊎_, ⊎-elim}
 use mathlib.Core.Path.{_≡_, refl, sym, ap, _∙_}
-use mathlib.Core.List.{List, _++_}
-use lib.ListN.{length, take, drop, replicate, length-append, length-drop}
-use lib.Seq.{sets, length-sets, drop-drop, length-take-le, take-take, take-add, take-append-add, drop-append-add, drop-at}
+use mathlib.Core.List.{List, _++_, append-nil}
+use lib.ListN.{length, take, drop, replicate, length-append, length-drop, drop-of-length-le}
+use lib.Seq.{sets, length-sets, drop-drop, length-take-le, take-all, take-take, take-add, take-append-add, drop-append-add, drop-at}
 use Rattle.buffer.specs.Written.{drop-sets, take-sets, part-sets}
 use Rattle.definition.specs.Answer.{cleared}
 use Rattle.product.specs.Segments.{segment, segment-segment}
@@ -66,6 +67,12 @@ segment-within {t} {n} {v} {w} h a m apart = ⊎-elim before after apart
 
 pub segment-sets : (w : List ℕ) (t : ℕ) (vs : List ℕ) (n : ℕ) → length vs ≡ n → t + n ≤ length w → segment (sets w t vs) t n ≡ vs
 segment-sets w t vs n e h = rw (← e) (part-sets w t vs (omega arith))
+
+pub rest-lent : (k : ℕ) (v : List ℕ) → segment v k (length v - k) ≡ drop k v
+rest-lent k v = take-all (length v - k) (drop k v) (le-of-eq (length-drop k v))
+
+pub rest-back : (k : ℕ) (v rest : List ℕ) → take k v ++ (rest ++ drop (length v - k) (drop k v)) ≡ take k v ++ rest
+rest-back k v rest = rw (drop-of-length-le (drop k v) (le-of-eq (length-drop k v)), append-nil)
 
 pub within-rest : {t n : ℕ} (k : ℕ) (w rest : List ℕ) → k ≤ length w → Within t n (drop k w) rest → Within (k + t) n w (take k w ++ rest)
 within-rest {t} {n} k w rest fits h = record {
