@@ -85,7 +85,8 @@ fn spread(p: usize, n: usize, w: &mut [u32], a: usize, k: usize, t: usize)
 // Writes f(0) modulo p, for f of at most one place.
 fn constant(p: u32, n: usize, m: usize, w: &mut [u32])
     requires { ⌜ Room p n m (now w) × (m ≤ 1) ⌝ }
-    ensures { λ _. ⌜ now (w .exit) ≡ sets (now (w .entry)) (n + m) (composed p n (segment (now (w .entry)) n m) (segment (now (w .entry)) 0 n)) ⌝ }
+    ensures { λ _. ⌜ now (w .exit) ≡ sets (now (w .entry)) (n + m)
+        (composed p n (segment (now (w .entry)) n m) (segment (now (w .entry)) 0 n)) ⌝ }
 {
     let end = n + m;
     let c = route::place(&w[n..end], 0);

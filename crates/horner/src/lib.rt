@@ -36,7 +36,8 @@ pub fn horner_part(p: u32, n: usize, f: &[u32], w: &mut [u32], b: usize, t: usiz
 // Route 1: f(g) modulo x^n.
 pub fn horner(p: u32, n: usize, f: &[u32], g: &[u32], out: &mut [u32], w: &mut [u32]) -> u64
     requires { ⌜ Lent p n (length (now f)) (length (now out)) (length (now w)) ⌝ }
-    ensures { λ r. ⌜ Route p n (now (f .entry)) (now (g .entry)) (hornerWeight n (length (now (f .entry)))) (now (out .exit)) (now (w .entry)) (now (w .exit)) r ⌝ }
+    ensures { λ r. ⌜ Route p n (now (f .entry)) (now (g .entry)) (hornerWeight n (length (now (f .entry))))
+        (now (out .exit)) (now (w .entry)) (now (w .exit)) r ⌝ }
 {
     let places = route::work_places(n, f.len());
     route::put(g, n, w, 0);

@@ -20,7 +20,8 @@ fn fraction(p: u32, n: usize, q: usize, f: &[u32], g: &[u32], w: &mut [u32]) -> 
 // Route 4: f(g) modulo x^n.
 pub fn kinoshita_li(p: u32, n: usize, f: &[u32], g: &[u32], out: &mut [u32], w: &mut [u32]) -> u64
     requires { ⌜ Lent p n (length (now f)) (length (now out)) (length (now w)) ⌝ }
-    ensures { λ r. ⌜ Route p n (now (f .entry)) (now (g .entry)) (kinoshitaLiWeight n (length (now (f .entry)))) (now (out .exit)) (now (w .entry)) (now (w .exit)) r ⌝ }
+    ensures { λ r. ⌜ Route p n (now (f .entry)) (now (g .entry)) (kinoshitaLiWeight n (length (now (f .entry))))
+        (now (out .exit)) (now (w .entry)) (now (w .exit)) r ⌝ }
 {
     let m = f.len();
     let places = route::work_places(n, m);

@@ -116,7 +116,8 @@ fn compose_span(
 // Route 2: f(g) modulo x^n.
 pub fn ranged(p: u32, n: usize, f: &[u32], g: &[u32], out: &mut [u32], w: &mut [u32]) -> u64
     requires { ⌜ Lent p n (length (now f)) (length (now out)) (length (now w)) ⌝ }
-    ensures { λ r. ⌜ Route p n (now (f .entry)) (now (g .entry)) (rangedWeight blockLength n (length (now (f .entry)))) (now (out .exit)) (now (w .entry)) (now (w .exit)) r ⌝ }
+    ensures { λ r. ⌜ Route p n (now (f .entry)) (now (g .entry)) (rangedWeight blockLength n (length (now (f .entry))))
+        (now (out .exit)) (now (w .entry)) (now (w .exit)) r ⌝ }
 {
     let places = route::work_places(n, f.len());
     let levels = rounds(f.len(), BLOCK_LENGTH);

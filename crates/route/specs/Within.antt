@@ -43,8 +43,10 @@ within-wider {t} {n} {s} {m} {v} {w} low high h = record {
   size = h .size;
   early = sym (take-take s t w low) ∙ ap (take s) (h .early) ∙ take-take s t v low;
   late =
-      let e : s + m ≡ t + n + (s + m - (t + n)) = omega arith in
-      ap (λ k. drop k w) e ∙ sym (drop-drop (s + m - (t + n)) (t + n) w) ∙ rw (h .late) (drop-drop (s + m - (t + n)) (t + n) v) ∙ ap (λ k. drop k v) (sym e);
+      let e : t + n + (s + m - (t + n)) ≡ s + m = omega arith in
+      let further : (l : List ℕ) → drop (s + m - (t + n)) (drop (t + n) l) ≡ drop (s + m) l =
+      λ l. drop-drop (s + m - (t + n)) (t + n) l ∙ ap (λ k. drop k l) e in
+      sym (further w) ∙ rw (h .late) (further v);
 }
 
 pub within-sets : {t n : ℕ} (w : List ℕ) (u : ℕ) (vs : List ℕ) → t ≤ u → u + length vs ≤ t + n → Within t n w (sets w u vs)
