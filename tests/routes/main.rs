@@ -16,7 +16,7 @@ mod traps;
 use checks::support::{run, Check};
 use std::process::ExitCode;
 
-const GROUPS: [(&str, Check); 11] = [
+const GROUPS: [(&str, Check); 13] = [
     ("every small shape", shapes::every_small),
     ("random shapes up to 300", shapes::random),
     ("order 4096, short outer lists", shapes::largest_order),
@@ -27,6 +27,8 @@ const GROUPS: [(&str, Check); 11] = [
     ("trap: f cut to n terms", traps::outer_cut),
     ("trap: order rounded down", traps::order_rounded_down),
     ("trap: d fixed", traps::window_fixed),
+    ("trap: Lagrange's formula", traps::lagrange),
+    ("trap: constant term counted in v", traps::constant_term_counted),
     ("shapes that are turned down", shapes::turned_down),
 ];
 
