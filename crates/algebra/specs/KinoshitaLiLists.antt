@@ -6,7 +6,6 @@
 --   levels-list p f K r q d Q  K levels on lists; at the last one, of rows of one place, P is divided by Q(0, y)
 --   graeffe-listed levels-listed   these lists are those of the algebra over the residues
 --   levels-composed            row 0 of the levels is the composition, from every Q that agrees with 1 - y g below y^m and x^n
---   kinoshita-li-composed      the same from 1 - y g, with the number of halvings of n
 --   levels-list-composed       the levels on lists give the composition
 use Prim.Native.Nat.{ℕ, zero, suc, _+_, _-_, _<_, _≤_, _^_, min}
 use mathlib.Core.List.{List, [], _∷_, map, reverse, reverseAux}
@@ -14,7 +13,7 @@ use mathlib.Core.Path.{_≡_, refl, sym, ap, fun-ext, _∙_}
 use lib.ListN.{length, length-map, List·getD-map, drop, length-drop}
 use lib.Seq.{getD-drop}
 use native.Mathlib.Omega.{arith}
-use Rattle.algebra.specs.Agree.{agree-refl, agree-sym}
+use Rattle.algebra.specs.Agree.{agree-sym}
 use Rattle.algebra.specs.Bridge.{series-of, listed, length-listed, coefficient-listed, listed-agree, composed-listed}
 use Rattle.algebra.specs.Cut.{window, Degree, cut, cut-below, cut-beyond}
 use Rattle.algebra.specs.Evaluate.{evaluate, evaluate-map, polynomial}
@@ -160,12 +159,6 @@ module _ {p : ℕ} (l : 0 < p) where
       module _ (n : ℕ) (e : 0 < m) (a : 0 < n) where
         abbrev q₀ : ℕ
         q₀ = min 1 (m - 1)
-
-        pub kinoshita-li-composed : listed n (levels R N P m (halvings n) n q₀ (m - 1) Q₀ 0) ≡ composed p n f g
-        unfolding denominator
-        kinoshita-li-composed =
-            levels-composed n (halvings n) q₀ (m - 1) Q₀ (omega arith) a (halvings-covers n) refl
-            (denominator-degree R N (series-of l g) m) (λ j b. agree-refl (Q₀ j))
 
         -- the list of 1 - y g below y^(q + 1) and x^n
         abbrev Q₁ : List ℕ

@@ -1,6 +1,5 @@
 -- Laws of the lists, sums and quotients of the definitions. Assumes nothing.
 --
---   tabulate-suc             a table grows by its last place
 --   length-tabulate          a table of n places has length n
 --   coefficient-tabulate     place k < n of a table of n places is the rule at k
 --   coefficient-beyond       past the end of a list the coefficient is 0
@@ -14,7 +13,6 @@
 --   sum-zero sum-beyond      all terms 0; terms that are 0 from m on may be left out
 --   ceilDiv-below            k < ⌈n/p⌉ exactly when k p < n
 --   ceilDiv-covers           n ≤ ⌈n/p⌉ p
---   ceilDiv-0 ceilDiv-1      ⌈0/p⌉ and ⌈n/1⌉
 --   ceilDiv-count            i < ⌈(m - j)/p⌉ exactly when j + p i < m
 use Prim.Native.Nat.{ℕ, zero, suc, _+_, _-_, _*_, _<_, _≤_}
 use mathlib.Core.List.{List, [], _∷_, _++_}
@@ -22,16 +20,12 @@ use mathlib.Core.Logic.{_↔_, _⊎_, inl, inr}
 use mathlib.Core.Path.{_≡_, refl, sym, _∙_}
 use lib.ListN.{length, getD, length-append, List·getD-append, List·getD-eq-default}
 use lib.Seq.{ext-getD, getD-at}
-use native.Mathlib.Nat.{div-eq-of-lt, eq-or-lt-of-le, le-div-iff-mul-le, le-of-suc-le-suc, lt-irrefl, mul-comm, suc-mul}
+use native.Mathlib.Nat.{eq-or-lt-of-le, le-div-iff-mul-le, le-of-suc-le-suc, lt-irrefl, mul-comm, suc-mul}
 use native.Mathlib.Numerals.{add-one}
 use native.Mathlib.Omega.{arith, by-contra}
 use Rattle.definition.specs.Lists.{sum, tabulate, coefficient, ceilDiv}
 use Rattle.algebra.specs.Semiring.{naturals}
 use Rattle.algebra.specs.Sum as Sum
-
-pub tabulate-suc : (n : ℕ) (f : ℕ → ℕ) → tabulate (suc n) f ≡ tabulate n f ++ (f n ∷ [])
-unfolding tabulate
-tabulate-suc n f = refl
 
 pub length-tabulate : (n : ℕ) (f : ℕ → ℕ) → length (tabulate n f) ≡ n
 unfolding tabulate
@@ -93,14 +87,6 @@ ceilDiv-below {p} l n k = (
 
 pub ceilDiv-covers : {p : ℕ} → 0 < p → (n : ℕ) → n ≤ ceilDiv n p * p
 ceilDiv-covers {p} l n = by-contra n (ceilDiv n p * p) (λ b. lt-irrefl (ceilDiv n p) (ceilDiv-below l n (ceilDiv n p) .1 b))
-
-pub ceilDiv-0 : {p : ℕ} → 0 < p → ceilDiv 0 p ≡ 0
-unfolding ceilDiv
-ceilDiv-0 {p} l = div-eq-of-lt (omega arith)
-
-pub ceilDiv-1 : (n : ℕ) → ceilDiv n 1 ≡ n
-unfolding ceilDiv
-ceilDiv-1 n = omega arith
 
 pub ceilDiv-count : {p : ℕ} → 0 < p → (m j i : ℕ) → (i < ceilDiv (m - j) p) ↔ (j + p * i < m)
 ceilDiv-count {p} l m j i = (

@@ -5,7 +5,6 @@
 --   coefficient-part    coefficient i of part j is coefficient j + p i
 --   evaluate-parts      f(s) is the sum of s^j f_j(s^p) over j < q, for q from min(p, m) to p, where m is the length of f
 --   bernstein           where g(x)^p is g(x^p): f(g) is the sum of g^j h_j(x^p) over j < q, with h_j = f_j(g)
---   bernstein-agree     below x^n it suffices to know each h_j below ⌈n/p⌉
 use Prim.Native.Nat.{ℕ, _+_, _*_, _<_, _≤_, min}
 use mathlib.Core.Logic.{_↔_}
 use mathlib.Core.List.{List, []}
@@ -14,7 +13,6 @@ use lib.ListN.{length}
 use native.Mathlib.Decide.{decLt}
 use native.Mathlib.Nat.{mul-comm}
 use native.Mathlib.Omega.{arith, by-contra}
-use Rattle.algebra.specs.Agree.{Agree, agree-refl, agree-sum, agree-⊠}
 use Rattle.algebra.specs.Evaluate.{evaluate, evaluate-[], evaluate-cong, evaluate-sum, map-evaluate}
 use Rattle.algebra.specs.Homomorphism.{Homomorphism, composite, constants}
 use Rattle.algebra.specs.Lists.{
@@ -28,7 +26,7 @@ use Rattle.algebra.specs.Lists.{
 use Rattle.algebra.specs.Power.{power, power-+, power-*}
 use Rattle.algebra.specs.Semiring.{Semiring, naturals, ⊗-𝟘, ⊗-left-comm}
 use Rattle.algebra.specs.Series.{Series, series}
-use Rattle.algebra.specs.Spread.{spread, spreading, spread-agree, spread-constant}
+use Rattle.algebra.specs.Spread.{spread, spreading, spread-constant}
 use Rattle.algebra.specs.Sum.{sum, sum-cong, sum-beyond, sum-blocks, ⊗-sum}
 use Rattle.definition.specs.Bernstein.{part, partAt, partCount}
 use Rattle.definition.specs.Lists.{ceilDiv, coefficient}
@@ -102,9 +100,3 @@ module _ {A : Type 0} (R : Semiring A) (φ : Homomorphism naturals R) {p : ℕ} 
         spread-out : (h : List ℕ) → evaluate ψ h (power (series R) g p) ≡ spread R p (evaluate ψ h g)
         spread-out h =
             rw (frobenius g) (sym (map-evaluate (spreading R p l) ψ ψ (λ c. spread-constant R p l (φ .map c)) h g))
-
-    pub bernstein-agree : {n : ℕ} (h : ℕ → Series A)
-        → ((j : ℕ) → j < q → Agree (ceilDiv n p) (h j) (evaluate ψ (part p j f) g))
-        → Agree n (sum (series R) q (λ j. power (series R) g j ⊠ spread R p (h j))) (evaluate ψ f g)
-    bernstein-agree h e =
-        rw bernstein (agree-sum R q (λ j v. agree-⊠ R (agree-refl _) (spread-agree R p l (e j v))))

@@ -6,27 +6,21 @@
 --   reduced-plane l a      the series of the residues of a function of two places
 --   plane-of l r xs        the series of the residues that a list holds in rows of r places
 --   listed-plane r w s     the coefficients of s below y^w and x^r, as a list in rows of r places
---   length-listed-plane    its length
---   listed-plane-agree agree-listed-plane   the lists of two series are equal exactly when the series agree below y^w and x^r
---   row-listed-plane       row j of the list is read off coefficient j in y
+--   listed-plane-agree     the lists of two series that agree below y^w and x^r are equal
 --   listed-plane-row listed-plane-column   a list of one row, and a list of rows of one place
 --   plane-of-plane plane-of-listed   the series of a list that was read off a series is the cut of that series
---   small-plane-listed reduced-plane-listed   tables of numbers below p, and of remainders
---   listed-plane-of        a list of w r numbers below p is read off its own series
+--   reduced-plane-listed   a table of remainders
 --   product2-series        over the natural numbers, the product of the definitions is that of the algebra
---   reduced-product2 reduced-cutProduct2At reduced-opposite reduced-evenPart reduced-squared reduced-window reduced-numerator
+--   reduced-product2 reduced-cutProduct2At reduced-opposite reduced-evenPart reduced-squared reduced-window
 --   reduced-denominator    after reduction, the operations of the definitions are those of the algebra
 --   reduced-column         the terms without x
---   cutProduct2-listed window-cutProduct2-listed quotient-listed   each list of the definitions, read off a series
+--   window-cutProduct2-listed quotient-listed   each list of the definitions, read off a series
 use Prim.Native.Nat.{ℕ, zero, suc, _+_, _-_, _*_, _%_, _<_}
 use mathlib.Core.Bool.{Bool, true, false, cond}
-use mathlib.Core.List.{List, reverse}
+use mathlib.Core.List.{List}
 use mathlib.Core.Path.{_≡_, refl, sym, ap, fun-ext, _∙_}
-use lib.Arith.{digits-lt}
 use lib.Dec.{eqb}
-use lib.ListN.{length, take, drop}
-use native.Mathlib.Decide.{Fin·val-path}
-use native.Mathlib.Nat.{mod-eq-of-lt, mod-mod}
+use native.Mathlib.Nat.{mod-mod}
 use Rattle.algebra.specs.Alternate.{alternate-at}
 use Rattle.algebra.specs.Bridge.{reduced, series-of, listed, small-listed, product-series, constant-series}
 use Rattle.algebra.specs.Cut.{cut, coefficients-cut}
@@ -34,7 +28,7 @@ use Rattle.algebra.specs.Cut as Cut
 use Rattle.algebra.specs.Geometric as Geometric
 use Rattle.algebra.specs.Graeffe.{opposite-at, squared-at}
 use Rattle.algebra.specs.Graeffe as Graeffe
-use Rattle.algebra.specs.Homomorphism.{coefficients, coefficients-at, coefficients-constant, coefficientwise, constants, map-sum}
+use Rattle.algebra.specs.Homomorphism.{coefficients, coefficients-at, coefficientwise, map-sum}
 use Rattle.algebra.specs.Lists.{coefficient-tabulate, sum-naturals}
 use Rattle.algebra.specs.Negation.{Negation}
 use Rattle.algebra.specs.Plane.{Plane, AgreePlane, cut-plane}
@@ -54,33 +48,13 @@ use Rattle.algebra.specs.Residue.{
   residues-negation,
   reduction,
 }
-use Rattle.algebra.specs.Rows.{
-  length-plane,
-  plane-agree,
-  agree-plane,
-  plane-planeAt,
-  planeAt-cut,
-  planeAt-inside,
-  row-plane,
-  plane-row,
-  plane-column,
-}
+use Rattle.algebra.specs.Rows.{plane-agree, planeAt-cut, plane-row, plane-column}
 use Rattle.algebra.specs.Semiring.{Semiring, naturals}
 use Rattle.algebra.specs.Series.{Series, series, series-negation, neg-at, sum-at, ⊠-at, 𝟘-at, 𝟙-constant}
 use Rattle.algebra.specs.Spread.{spread-naturals, coefficients-spread}
 use Rattle.algebra.specs.Sum.{sum-cong}
 use Rattle.definition.specs.KinoshitaLi as Plain
-use Rattle.definition.specs.KinoshitaLi.{
-  planeAt,
-  plane,
-  negative,
-  product2,
-  product2Term,
-  cutProduct2At,
-  cutProduct2,
-  quotientTerm,
-  quotientNext,
-}
+use Rattle.definition.specs.KinoshitaLi.{planeAt, plane, negative, product2, product2Term, cutProduct2At, quotientTerm, quotientNext}
 use Rattle.definition.specs.Lists.{sum, tabulate, coefficient}
 
 -- over the natural numbers
@@ -99,17 +73,9 @@ module _ {p : ℕ} where
   listed-plane r w s = plane r w (values s)
 
   module _ (r w : ℕ) where
-    pub length-listed-plane : (s : Plane (Residue p)) → length (listed-plane r w s) ≡ w * r
-    unfolding listed-plane
-    length-listed-plane s = length-plane r w (values s)
-
     pub listed-plane-agree : {s t : Plane (Residue p)} → AgreePlane w r s t → listed-plane r w s ≡ listed-plane r w t
     unfolding listed-plane
     listed-plane-agree h = plane-agree r w (λ j b i c. ap (λ x. x .0) (h j b i c))
-
-    pub agree-listed-plane : (s t : Plane (Residue p)) → listed-plane r w s ≡ listed-plane r w t → AgreePlane w r s t
-    unfolding listed-plane
-    agree-listed-plane s t e j b i c = Fin·val-path (agree-plane r w (values s) (values t) e j b i c)
 
 module _ {p : ℕ} (l : 0 < p) where
   abbrev R : Semiring (Residue p)
@@ -141,11 +107,6 @@ module _ {p : ℕ} (l : 0 < p) where
       small-listed l n (λ k. s k .0) (λ k b. s k .1)
       ∙ ap (listed n) (fun-ext λ k. coefficients-at (reduction l) (λ k. s k .0) k ∙ residue-own l (s k))
 
-  pub row-listed-plane : (r w : ℕ) (s : Plane (Residue p)) (j : ℕ) → j < w
-      → take r (drop (j * r) (listed-plane r w s)) ≡ listed r (s j)
-  unfolding listed-plane
-  row-listed-plane r w s j b = row-plane r w (values s) j b ∙ values-listed r (s j)
-
   pub listed-plane-row : (r : ℕ) (s : Plane (Residue p)) → listed-plane r 1 s ≡ listed r (s 0)
   unfolding listed-plane
   listed-plane-row r s = plane-row r (values s) ∙ values-listed r (s 0)
@@ -163,22 +124,9 @@ module _ {p : ℕ} (l : 0 < p) where
   unfolding listed-plane
   plane-of-listed r w s = plane-of-plane r w (values s) ∙ ap (cut-plane R w r) (reduced-values s)
 
-  pub small-plane-listed : (r w : ℕ) (a : Plane ℕ) → ((j : ℕ) → j < w → (i : ℕ) → i < r → a j i < p)
-      → plane r w a ≡ listed-plane r w (reduced-plane a)
-  unfolding listed-plane
-  small-plane-listed r w a h =
-      plane-agree r w (λ j b i c. sym (reduced-plane-value a j i ∙ mod-eq-of-lt (h j b i c)))
-
   pub reduced-plane-listed : (r w : ℕ) (a : Plane ℕ) → plane r w (λ j i. a j i % p) ≡ listed-plane r w (reduced-plane a)
   unfolding listed-plane
   reduced-plane-listed r w a = plane-agree r w (λ j b i c. sym (reduced-plane-value a j i))
-
-  pub listed-plane-of : (r w : ℕ) (xs : List ℕ) → length xs ≡ w * r → ((k : ℕ) → k < w * r → coefficient xs k < p)
-      → listed-plane r w (plane-of r xs) ≡ xs
-  listed-plane-of r w xs e h =
-      sym (small-plane-listed r w (planeAt r xs)
-      (λ j b i c. rw (planeAt-inside r xs j i c) (h (j * r + i) (digits-lt b c))))
-      ∙ plane-planeAt r w xs e
 
   reduced-remainder : (a : Plane ℕ) → reduced-plane (λ j i. a j i % p) ≡ reduced-plane a
   reduced-remainder a = fun-ext λ j. fun-ext λ i.
@@ -214,12 +162,6 @@ module _ {p : ℕ} (l : 0 < p) where
   pub reduced-column : (a : Plane ℕ) → reduced l (λ j. a j 0) ≡ (λ j. reduced-plane a j 0)
   reduced-column a = fun-ext λ j. coefficients-at (reduction l) (λ j. a j 0) j ∙ sym (reduced-plane-at a j 0)
 
-  pub reduced-numerator : (f : List ℕ) → reduced-plane (Plain.numerator f) ≡ coefficients (constants R) (series-of l (reverse f))
-  unfolding Plain.numerator
-  reduced-numerator f = fun-ext λ j.
-      rw (reduced-plane-row, coefficients-at (constants R), coefficients-at (reduction l), constant-series)
-      (coefficients-constant (reduction l) (coefficient (reverse f) j))
-
   pub reduced-denominator : (g : List ℕ)
       → reduced-plane (Plain.denominator p g) ≡ Geometric.denominator (series R) (series-negation R N) (series-of l g)
   unfolding Plain.denominator Geometric.denominator
@@ -244,11 +186,6 @@ module _ {p : ℕ} (l : 0 < p) where
   window-cutProduct2-listed r w e a b =
       reduced-plane-listed r w (Plain.window e (product2 a b))
       ∙ ap (listed-plane r w) (reduced-window e (product2 a b) ∙ ap (Cut.window e) (reduced-product2 a b))
-
-  pub cutProduct2-listed : (r w : ℕ) (a b : Plane ℕ)
-      → cutProduct2 p r w a b ≡ listed-plane r w (series (series R) ._⊗_ (reduced-plane a) (reduced-plane b))
-  unfolding cutProduct2 cutProduct2At
-  cutProduct2-listed r w a b = reduced-plane-listed r w (product2 a b) ∙ ap (listed-plane r w) (reduced-product2 a b)
 
   module _ (a b : ℕ → ℕ) where
     U : Series (Residue p)

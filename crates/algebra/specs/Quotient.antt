@@ -13,12 +13,11 @@
 --   quotient-⊠            (P/Q) ⊠ Q is P
 --   ⊠-quotient            (U ⊠ Q)/Q is U
 --   quotient-unique       U is P/Q if U ⊠ Q is P
---   ⊠-cancel              U and W agree below n if U ⊠ Q and W ⊠ Q do
 use Prim.Native.Nat.{ℕ, zero, suc, _-_, _<_}
 use mathlib.Core.Path.{_≡_, refl, sym, ap, fun-ext, _∙_}
 use native.Mathlib.Nat.{sub-zero, suc-sub-suc}
 use native.Mathlib.Omega.{arith}
-use Rattle.algebra.specs.Agree.{Agree, agree-refl}
+use Rattle.algebra.specs.Agree.{Agree}
 use Rattle.algebra.specs.Homomorphism.{Homomorphism, coefficients, coefficients-at, map-neg}
 use Rattle.algebra.specs.Negation.{Negation, signed, ⊕-neg-cancel}
 use Rattle.algebra.specs.Semiring.{Semiring, ring, ⊗-𝟙, ⊕-assoc, ⊕-comm, ⊕-𝟘}
@@ -96,9 +95,6 @@ module _ {A : Type 0} (R : Semiring A) (N : Negation R) where
 
     pub quotient-unique : (P U : Series A) → U ⊠ Q ≡ P → U ≡ quotient P Q
     quotient-unique P U e = rw (← e) (sym (⊠-quotient U))
-
-    pub ⊠-cancel : {n : ℕ} (U W : Series A) → Agree n (U ⊠ Q) (W ⊠ Q) → Agree n U W
-    ⊠-cancel U W h = rw (⊠-quotient U, ⊠-quotient W) at (agree-quotient h (agree-refl Q))
 
 module _ {A B : Type 0} {R : Semiring A} {S : Semiring B} (N : Negation R) (M : Negation S) (φ : Homomorphism R S) where
   quotient-map-at : (P Q : Series A) (k : ℕ)

@@ -6,35 +6,20 @@
 --   length-plane        the list of a below y^w and x^r has w r places
 --   coefficient-plane   its place j r + i, for j < w and i < r, is the coefficient of y^j x^i in a
 --   planeAt-plane planeAt-cut   the polynomial that it holds agrees with a below y^w and x^r, and is the cut of a
---   plane-agree agree-plane   two such lists are equal exactly when the polynomials agree below y^w and x^r
---   plane-planeAt       a list of w r places is the list of the polynomial that it holds
---   row-plane           row j of the list of a
+--   plane-agree         the lists of two polynomials that agree below y^w and x^r are equal
 --   plane-row plane-column   a list of one row, and a list of rows of one place
 use Prim.Native.Nat.{ℕ, zero, suc, _+_, _*_, _/_, _%_, _<_, _≤_}
 use mathlib.Core.List.{List}
-use mathlib.Core.Path.{_≡_, sym, ap, fun-ext, _∙_}
+use mathlib.Core.Path.{_≡_, sym, fun-ext, _∙_}
 use borrow.Author.Tests.{lt-ltb, le-ltb}
 use lib.Arith.{digits-lt, digits-div, digits-mod}
-use lib.ListN.{length, take, drop, length-take, length-drop}
+use lib.ListN.{length, take, drop, length-take}
 use lib.Seq.{getD-take, getD-drop}
 use native.Mathlib.Decide.{decLt}
-use native.Mathlib.Nat.{
-  div-add-mod',
-  div-eq-of-lt,
-  div-lt-iff-lt-mul,
-  div-one,
-  mod-eq-of-lt,
-  mod-lt,
-  mod-one,
-  mul-le-mul-right,
-  mul-one,
-  mul-zero,
-  one-mul,
-  suc-mul,
-}
+use native.Mathlib.Nat.{div-eq-of-lt, div-lt-iff-lt-mul, div-one, mod-eq-of-lt, mod-lt, mod-one, mul-le-mul-right, mul-one, mul-zero, one-mul}
 use native.Mathlib.Omega.{arith}
 use Rattle.algebra.specs.Cut.{cut-unique}
-use Rattle.algebra.specs.Lists.{coefficient-beyond, coefficient-tabulate, length-tabulate, tabulate-cong, table-of}
+use Rattle.algebra.specs.Lists.{coefficient-beyond, coefficient-tabulate, length-tabulate, tabulate-cong}
 use Rattle.algebra.specs.Plane.{Plane, AgreePlane, cut-plane}
 use Rattle.algebra.specs.Semiring.{naturals}
 use Rattle.algebra.specs.Series.{series, 𝟘-at}
@@ -96,21 +81,6 @@ module _ (r : ℕ) where
     plane-agree {a} {b} h =
         tabulate-cong (w * r) (planePlace r a) (planePlace r b)
         (λ k c. let (row, place) = row-below w r k c in h (k / r) row (k % r) place)
-
-    pub agree-plane : (a b : Plane ℕ) → plane r w a ≡ plane r w b → AgreePlane w r a b
-    agree-plane a b e j c i d =
-        sym (coefficient-plane a j i c d) ∙ ap (λ l. coefficient l (j * r + i)) e ∙ coefficient-plane b j i c d
-
-    pub plane-planeAt : (l : List ℕ) → length l ≡ w * r → plane r w (planeAt r l) ≡ l
-    unfolding plane planePlace
-    plane-planeAt l e = sym (table-of (w * r) (planePlace r (planeAt r l)) l e (λ k b.
-        sym (planeAt-inside l (k / r) (k % r) (row-below w r k b .1) ∙ rw div-add-mod')))
-
-    pub row-plane : (a : Plane ℕ) (j : ℕ) → j < w → take r (drop (j * r) (plane r w a)) ≡ tabulate r (a j)
-    row-plane a j b =
-        table-of r (a j) (take r (drop (j * r) (plane r w a)))
-        (rw (length-take, length-drop, length-plane) (omega (arith, mul-le-mul-right r b, suc-mul j r)))
-        (λ i c. ap (λ f. f i) (planeAt-row (plane r w a) j) ∙ planeAt-plane a j b i c)
 
 pub plane-row : (r : ℕ) (a : Plane ℕ) → plane r 1 a ≡ tabulate r (a 0)
 unfolding plane planePlace

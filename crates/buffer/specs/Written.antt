@@ -6,34 +6,26 @@
 --   sets-take           one place more of a list that is copied place by place
 --   sets-comm           two writes apart may change places
 --   sets-cover          a write over an earlier one, which it covers
---   getD-sets-other, getD-sets-before, getD-sets-after    a place read after a write elsewhere
+--   getD-sets-other, getD-sets-after    a place read after a write elsewhere
 --   getD-sets-inside    a place read after it was written
 --   take-sets, drop-sets                     the parts before and after a write
 --   take-sets-inside, drop-sets-inside       a write within the part that is kept
---   part-sets-before, part-sets-after        a part in the middle read after a write elsewhere
 --   part-sets           the part that was written
 --   sets-part           a part lent from place i on and come back as vs
 --   sets-front          a part lent from place 0 on and come back as vs
---   sets-within         a write within the rest from place i on
 --   length-part         the length of k places from place i on
---   part-written        k places lent from place i on and come back with vs written from their place j on
---   front-written       the same of the first k places
 --   sets-whole          a write over the whole list
---   cleared-sets        cleared as a write of zeros
---   length-cleared      clearing keeps the length
---   cleared-written     clearing what was written clears what was there before
---   cleared-cleared     clearing twice
 --   cleared-part        a part lent from place t on and come back cleared
 -- Assumes nothing.
 use Prim.Native.Nat.{ℕ, suc, _+_, _-_, _<_, _≤_}
-use native.Mathlib.Nat.{add-zero, zero-add, add-suc, suc-add, le-of-eq}
+use native.Mathlib.Nat.{add-zero, add-suc, suc-add, le-of-eq}
 use native.Mathlib.Numerals.{add-one}
 use native.Mathlib.Omega.{arith}
 use mathlib.Core.Logic.{_≢_}
 use mathlib.Core.Path.{_≡_, refl, sym, ap, _∙_}
 use mathlib.Core.List.{List, [], _∷_, _++_, append-assoc, append-nil}
-use lib.ListN.{length, getD, take, drop, set, replicate, length-drop, length-replicate, take-append-drop, drop-of-length-le}
-use lib.Seq.{sets, sets-eq, length-sets, set-comm, set-set, take-set-le, drop-set-lt, take-set-lt, drop-set-add, getD-set-other, drop-drop, drop-at, length-take-le, take-append-seam, getD-drop, getD-take, drop-length, take-suc}
+use lib.ListN.{length, getD, take, drop, set, replicate, length-drop, length-replicate, drop-of-length-le}
+use lib.Seq.{sets, sets-eq, set-comm, set-set, take-set-le, drop-set-lt, take-set-lt, drop-set-add, getD-set-other, drop-drop, drop-at, length-take-le, take-append-seam, getD-drop, getD-take, drop-length, take-suc}
 use Rattle.definition.specs.Answer.{cleared}
 
 module _ {A : Type 0} where
@@ -68,9 +60,6 @@ module _ {A : Type 0} where
       getD-sets-other (set l i v) (suc i) vs k d (λ j h e. apart (suc j) (omega arith) (omega arith))
       ∙ getD-set-other l i k v d (λ e. apart 0 (omega arith) (omega arith))
 
-  pub getD-sets-before : (l : List A) (i : ℕ) (vs : List A) (k : ℕ) (d : A) → k < i → getD (sets l i vs) k d ≡ getD l k d
-  getD-sets-before l i vs k d h = getD-sets-other l i vs k d (λ j b e. omega arith)
-
   pub getD-sets-after : (l : List A) (i : ℕ) (vs : List A) (k : ℕ) (d : A) → i + length vs ≤ k → getD (sets l i vs) k d ≡ getD l k d
   getD-sets-after l i vs k d h = getD-sets-other l i vs k d (λ j b e. omega arith)
 
@@ -91,15 +80,6 @@ module _ {A : Type 0} where
   drop-sets-inside l i [] k = refl
   drop-sets-inside l i (v ∷ vs) k = rw (← add-suc, drop-sets-inside (set l (k + i) v) (suc i) vs k, drop-set-add)
 
-  pub part-sets-before : (l : List A) (i : ℕ) (vs : List A) (j k : ℕ) → j + k ≤ i → take k (drop j (sets l i vs)) ≡ take k (drop j l)
-  part-sets-before l i vs j k h =
-      let e : i ≡ j + (i - j) = omega arith in
-      ap (λ (n : ℕ). take k (drop j (sets l n vs))) e
-      ∙ rw (drop-sets-inside l (i - j) vs j) (take-sets (drop j l) (i - j) vs k (omega arith))
-
-  pub part-sets-after : (l : List A) (i : ℕ) (vs : List A) (j k : ℕ) → i + length vs ≤ j → take k (drop j (sets l i vs)) ≡ take k (drop j l)
-  part-sets-after l i vs j k h = rw (drop-sets l i vs j h)
-
   pub sets-part : (l : List A) (i k : ℕ) (vs : List A) → length vs ≡ k → i + k ≤ length l
       → take i l ++ (vs ++ drop k (drop i l)) ≡ sets l i vs
   sets-part l i k vs e h = rw (drop-drop, ← append-assoc, ← e) (sym (sets-eq vs l i (omega arith)))
@@ -116,20 +96,8 @@ module _ {A : Type 0} where
   getD-sets-inside l i vs j d h below =
       rw (← getD-drop, ← getD-take (length vs) (drop i (sets l i vs)) j d below, part-sets l i vs h)
 
-  pub sets-within : (l : List A) (i j : ℕ) (vs : List A) → i ≤ length l → take i l ++ sets (drop i l) j vs ≡ sets l (i + j) vs
-  sets-within l i j vs h =
-      rw (← drop-sets-inside l j vs i, ← take-sets l (i + j) vs i (omega arith)) (take-append-drop i _)
-
   pub length-part : (l : List A) (i k : ℕ) → i + k ≤ length l → length (take k (drop i l)) ≡ k
   length-part l i k h = length-take-le k (drop i l) (rw length-drop (omega arith))
-
-  pub part-written : (l : List A) (i k j : ℕ) (vs : List A) → i ≤ length l → j + length vs ≤ k
-      → take i l ++ (sets (take k (drop i l)) j vs ++ drop k (drop i l)) ≡ sets l (i + j) vs
-  part-written l i k j vs h fits =
-      rw (← take-sets-inside (drop i l) j vs k fits, ← drop-sets (drop i l) j vs k fits, take-append-drop) (sets-within l i j vs h)
-
-  pub front-written : (l : List A) (k j : ℕ) (vs : List A) → j + length vs ≤ k → sets (take k l) j vs ++ drop k l ≡ sets l j vs
-  front-written l k j vs fits = part-written l 0 k j vs (omega arith) fits ∙ rw zero-add
 
   pub sets-whole : (l vs : List A) → length vs ≡ length l → sets l 0 vs ≡ vs
   sets-whole l vs e = sym (sets-front l (length vs) vs refl (omega arith)) ∙ rw (e, drop-length, append-nil)
@@ -139,21 +107,6 @@ module _ {A : Type 0} where
   sets-take l i vs j d h =
       let e : length (take j vs) ≡ j = length-take-le j vs (omega arith) in
       rw (add-one, take-suc vs j d h, ← sets-snoc, e)
-
-pub cleared-sets : (k : ℕ) (w : List ℕ) → k ≤ length w → cleared k w ≡ sets w 0 (replicate k 0)
-unfolding cleared
-cleared-sets k w h = sets-front w k (replicate k 0) (length-replicate k 0) h
-
-pub length-cleared : (k : ℕ) (w : List ℕ) → k ≤ length w → length (cleared k w) ≡ length w
-length-cleared k w h = rw (cleared-sets k w h) (length-sets w 0 (replicate k 0))
-
-pub cleared-written : (k : ℕ) (w : List ℕ) (i : ℕ) (vs : List ℕ) → i + length vs ≤ k → cleared k (sets w i vs) ≡ cleared k w
-unfolding cleared
-cleared-written k w i vs h = rw (drop-sets w i vs k h)
-
-pub cleared-cleared : (j k : ℕ) (w : List ℕ) → j ≤ k → k ≤ length w → cleared k (cleared j w) ≡ cleared k w
-cleared-cleared j k w h b =
-    rw (cleared-sets j w (omega arith)) (cleared-written k w 0 (replicate j 0) (rw length-replicate (omega arith)))
 
 pub cleared-part : (w : List ℕ) (t n : ℕ) → t + n ≤ length w
     → take t w ++ (cleared n (take n (drop t w)) ++ drop n (drop t w)) ≡ sets w t (replicate n 0)
