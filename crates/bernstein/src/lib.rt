@@ -28,8 +28,7 @@ fn top_part(p: u32, m: usize) -> usize
     requires { ⌜ (0 < p) × (0 < m) ⌝ }
     ensures { λ r. ⌜ r ≡ min p m - 1 ⌝ }
 {
-    let most = p as usize;
-    if most < m { most - 1 } else { m - 1 }
+    number::smaller(p as usize, m) - 1
 }
 
 // Writes part j of the m places from a on, from place t on. Gives the count of its places.

@@ -54,7 +54,7 @@ fn rounds(m: usize, b: usize) -> usize
     requires { ⌜ (m ≤ 4096) × (0 < b) × (b ≤ 64) ⌝ }
     ensures { λ r. ⌜ r ≡ halvings (ceilDiv m b) ⌝ }
 {
-    number::halvings(number::rounded_up(m, b))
+    number::halvings((m + (b - 1)) / b)
 }
 
 // 2^level
