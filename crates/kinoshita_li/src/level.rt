@@ -39,7 +39,7 @@ fn arrange(r: usize, q: usize, d: usize, m: usize) -> Layout
     requires { ⌜ Bounded r q d m ⌝ }
     ensures { λ s. ⌜ s ≡ layoutOf r q d m ⌝ }
 {
-    let half = number::rounded_up(r, 2);
+    let half = (r + 1) / 2;
     let next = degree_bound(m, q);
     let low = number::excess(d, q);
     let count = q + 1;

@@ -1,7 +1,8 @@
 -- `kinoshita_li::level::arrange` meets its contract. Assumes nothing.
 use borrow.Author.Needs.{needs}
 use native.Mathlib.Omega.{arith}
-use Prim.Native.Nat.{_+_, _-_, _*_, _<_, _^_}
+use Prim.Native.Nat.{_+_, _-_, _*_, _/_, _<_, _^_}
+use Rattle.definition.specs.Lists.{ceilDiv}
 use Rattle.definition.specs.Weight.{degreeBound}
 use Rattle.kinoshita_li.specs.Layout.{layoutOf}
 use Rattle.kinoshita_li.proofs.level.arrange.Statement.{statement}
@@ -9,18 +10,18 @@ use Rattle.kinoshita_li.proofs.level.arrange.Tie as tie
 
 module _ (c : tie.After-excess) where
   abbrev start : tie.Start
-  start = c .before .before .before
+  start = c .before .before
 
   -- the last part begins below 2^64
   room : (start .args .q + 1) * start .args .r + (start .args .m - start .args .d) * start .args .r
       + (start .args .q + 1) * start .args .r + (c .before .degree-bound .result + 1) * start .args .r
-      + (c .before .degree-bound .result + 1) * c .before .before .rounded-up .result
+      + (c .before .degree-bound .result + 1) * ((start .args .r + 1) / 2)
       < 2 ^ 64
-  unfolding layoutOf
-  room = rw (← c .before .degree-bound .ensures, ← c .before .before .rounded-up .ensures) at (start .pre .places)
+  unfolding layoutOf ceilDiv
+  room = rw (← c .before .degree-bound .ensures) at (start .pre .places)
 
-rounded-up-requires : tie.Need-rounded-up-requires
-rounded-up-requires c κs = search needs
+add-half : tie.Need-add-half
+add-half c = search needs
 
 degree-bound-requires : tie.Need-degree-bound-requires
 degree-bound-requires c κs = search needs
@@ -72,14 +73,14 @@ sub-t20 : tie.Need-sub-t20
 sub-t20 c = search needs
 
 returns : tie.Need-returns
-unfolding layoutOf
-returns c = rw (c .excess .ensures, c .before .degree-bound .ensures, c .before .before .rounded-up .ensures)
+unfolding layoutOf ceilDiv
+returns c = rw (c .excess .ensures, c .before .degree-bound .ensures)
 
 pub arrange-spec : {M : Type 1} → statement M
 arrange-spec =
     tie.close
     (tie.spec
-    rounded-up-requires
+    add-half
     degree-bound-requires
     excess-requires
     add-count
