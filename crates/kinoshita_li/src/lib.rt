@@ -8,7 +8,7 @@ ghost use Rattle.definition.specs.Weight.{kinoshitaLiWeight};
 ghost use Rattle.kinoshita_li.specs.Whole.{Fraction, FractionLent};
 ghost use Rattle.route.specs.Contract.{Lent, Route};
 
-// Leaves f(g) modulo x^n behind the q + 1 rows of Q = 1 - y g.
+// Leaves f(g) modulo x^n behind the q + 1 rows of Q = 1 - y g. All of w is used.
 fn fraction(p: u32, n: usize, q: usize, f: &[u32], g: &[u32], w: &mut [u32]) -> u64
     requires { ⌜ FractionLent p n q (now f) (now w) ⌝ }
     ensures { λ s. ⌜ Fraction p n q (now (f .entry)) (now (g .entry)) (now (w .exit)) s ⌝ }
