@@ -1,24 +1,30 @@
 -- The counts and the orders of the parts in route 3, for p above 1.
 --
+--   part-place          place i of part j stands at j + p i, and i is a place of the list too
 --   ceilDiv-half        twice ⌈a/p⌉ is at most a + 1
 --   ceilDiv-positive    ⌈a/p⌉ is above 0 where a is
 --   partCount-half      twice the count of a part of m places is at most m + 1
 --   partCount-sum       the counts of the min(p, m) parts add up to m
 -- Assumes nothing.
 use Prim.Native.Nat.{ℕ, zero, suc, _+_, _*_, _-_, _<_, _≤_, min}
-use native.Mathlib.Nat.{min-le-left, mul-comm, mul-le-mul-left}
+use native.Mathlib.Nat.{min-le-left, mul-comm, mul-le-mul-left, mul-le-mul-right, one-mul}
 use native.Mathlib.Numerals.{add-one}
 use native.Mathlib.Omega.{arith, by-contra}
 use mathlib.Core.Bool.{cond}
 use mathlib.Core.Path.{_≡_, sym, _∙_}
 use borrow.Author.Tests.{lt-ltb, le-ltb}
 use lib.Dec.{ltb}
-use Rattle.algebra.specs.Lists.{ceilDiv-below, ceilDiv-covers, sum-naturals, sum-beyond}
+use Rattle.algebra.specs.Lists.{ceilDiv-below, ceilDiv-count, ceilDiv-covers, sum-naturals, sum-beyond}
 use Rattle.algebra.specs.Parts.{partCount-below}
 use Rattle.algebra.specs.Semiring.{naturals}
 use Rattle.algebra.specs.Sum as Sum
 use Rattle.definition.specs.Bernstein.{partCount}
 use Rattle.definition.specs.Lists.{sum, ceilDiv}
+
+pub part-place : {p : ℕ} → 0 < p → (m j i : ℕ) → i < ceilDiv (m - j) p → (j + p * i < m) × (i < m)
+part-place {p} l m j i b =
+    let inside : j + p * i < m = ceilDiv-count l m j i .0 b in
+    (inside, omega (arith, mul-le-mul-right i l, one-mul i))
 
 -- a sum of k ones, and then zeros
 count : (c k : ℕ) (f : ℕ → ℕ) → k ≤ c → ((i : ℕ) → i < k → f i ≡ 1) → ((i : ℕ) → k ≤ i → f i ≡ 0) → Sum.sum naturals c f ≡ k

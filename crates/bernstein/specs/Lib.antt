@@ -4,7 +4,6 @@
 --   Weights   the weight by levels
 --   Split     the parts, joined by Horner's rule, are f(g)
 --   Level     the contracts
---   Steps     tables written from a segment
 --   Rest      the value of a part
 --   Join      the join of one part more
 --   Loop      the parts from the top one down
@@ -12,7 +11,6 @@ pub mod Counts
 pub mod Weights
 pub mod Split
 pub mod Level
-pub mod Steps
 pub mod Rest
 pub mod Join
 pub mod Loop

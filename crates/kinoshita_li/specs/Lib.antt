@@ -1,6 +1,5 @@
 -- The contracts of route 4's steps and levels, and the laws behind them.
 --
---   Filling    a loop that writes a table
 --   Steps      steps on rows of one list
 --   Division   the division of the last level
 --   Exact      polynomials that rows hold whole
@@ -9,7 +8,6 @@
 --   Graeffe    the two halves of a level
 --   Level      a level
 --   Whole      the route as a whole
-pub mod Filling
 pub mod Steps
 pub mod Division
 pub mod Exact

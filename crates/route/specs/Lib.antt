@@ -2,7 +2,9 @@
 --
 --   Within    two lists that are equal outside some places
 --   Table     a table, written place by place
+--   Filling   a loop that writes a table
 --   Contract  what every route requires and ensures
 pub mod Within
 pub mod Table
+pub mod Filling
 pub mod Contract

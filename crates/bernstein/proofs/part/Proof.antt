@@ -1,22 +1,19 @@
 -- `bernstein::part` meets its contract: after i turns the first i places of the part are written. Assumes nothing.
 use borrow.Author.Needs.{needs}
 use native.Mathlib.Omega.{arith}
-use Prim.Native.Nat.{_+_, _*_, _-_, _<_, _≤_}
-use mathlib.Core.Path.{_≡_, _∙_}
-use lib.Seq.{sets}
-use lib.ListN.{length}
+use Prim.Native.Nat.{ℕ, _+_, _*_, _-_, _<_}
+use native.Mathlib.Nat.{le-refl}
+use mathlib.Core.Path.{_∙_}
 use Rattle.buffer.specs.Written.{length-part}
 use Rattle.definition.specs.Bernstein.{part, partAt, partCount}
-use Rattle.definition.specs.Lists.{tabulate}
-use Rattle.product.specs.Segments.{segment}
-use Rattle.route.specs.Table.{table-first, table-next}
-use Rattle.bernstein.specs.Steps.{place-kept, part-place}
+use Rattle.product.specs.Segments.{Apart, segment, apart-within}
+use Rattle.route.specs.Filling.{Filling, filling-first, filling-last, filling-next, filling-place}
+use Rattle.bernstein.specs.Counts.{part-place}
 use Rattle.bernstein.proofs.part.Statement.{statement}
 use Rattle.bernstein.proofs.part.Tie as tie
 
 abbrev Inv-loop : tie.InvT-loop
-Inv-loop p j w₀ a m t count i₀ w i =
-    (i ≤ count) × (length w ≡ length w₀) × (w ≡ sets w₀ t (tabulate i (partAt p j (segment w₀ a m))))
+Inv-loop p j w₀ a m t count i₀ w i = Filling (partAt p j (segment w₀ a m)) t count w₀ w i
 
 abbrev μ-loop : tie.MeasureT-loop
 μ-loop p j w₀ a m t count i₀ w i = count - i
@@ -26,10 +23,17 @@ module _ (c : tie.In-loop Inv-loop μ-loop) where
   abbrev args : tie.Start Inv-loop μ-loop
   args = c .before .before .before .before
 
+  place : (i : ℕ) → i < c .before .before .rounded-up .result → (args .args .j + args .args .p * i < args .args .m) × (i < args .args .m)
+  place i below =
+      part-place (args .pre .0) (args .args .m) (args .args .j) i (rw (c .before .before .rounded-up .ensures) at below)
+
   inside : (args .args .j + args .args .p * c .before .loop .i < args .args .m) × (c .before .loop .i < args .args .m)
-  inside =
-      part-place (args .pre .0) (args .args .m) (args .args .j) (c .before .loop .i)
-      (rw (c .before .before .rounded-up .ensures) at (c .loop-test .taken))
+  inside = place (c .before .loop .i) (c .loop-test .taken)
+
+  apart : Apart (args .args .w .now) (args .args .a) (args .args .m) (args .args .t) (c .before .before .rounded-up .result)
+  apart =
+      let most = place (c .before .before .rounded-up .result - 1) (omega arith) .1 in
+      apart-within (args .pre .3) (le-refl _) (le-refl _) (le-refl _) (omega arith)
 
 sub-rounded-up : tie.Need-sub-rounded-up Inv-loop μ-loop
 sub-rounded-up c = search needs
@@ -38,7 +42,7 @@ rounded-up-requires : tie.Need-rounded-up-requires Inv-loop μ-loop
 rounded-up-requires c κs = search needs
 
 loop-holds : tie.Need-loop-holds Inv-loop μ-loop
-loop-holds c = (search needs, search needs, table-first _ _ _)
+loop-holds c = filling-first _ _ _ _
 
 mul-w : tie.Need-mul-w Inv-loop μ-loop
 mul-w c = omega (arith, inside c)
@@ -75,12 +79,8 @@ unfolding partAt
 loop-again c =
     let at = c .before .before in
     let start = args (c .before) in
-    let rule = partAt (start .args .p) (start .args .j) (segment (start .args .w .now) (start .args .a) (start .args .m)) in
-    let fits = inside (c .before) in (
-      search needs,
-      search needs,
-      rw (at .loop .inv .2, place-kept (start .pre .3) rule (at .loop .i) (omega arith) _ (fits .0)) (table-next _ _ rule (at .loop .i)),
-    )
+    let fits = inside (c .before) in
+    filling-next (at .loop .inv) (c .before .loop-test .taken) (filling-place (at .loop .inv) (apart (c .before)) _ (fits .0))
 
 same-length : tie.Need-same-length Inv-loop μ-loop
 same-length c = search needs
@@ -91,8 +91,10 @@ returns c =
     let at = c .before in
     let start = at .before .before .before in
     let size = length-part (start .args .w .now) (start .args .a) (start .args .m) (start .pre .3 .source) in
-    let all : at .loop .i ≡ at .before .rounded-up .result = omega arith in
-    record { written = at .loop .inv .2 ∙ rw (all, size, at .before .rounded-up .ensures); count = at .before .rounded-up .ensures }
+    record {
+      written = filling-last (at .loop .inv) (omega arith) ∙ rw (size, at .before .rounded-up .ensures);
+      count = at .before .rounded-up .ensures;
+    }
 
 pub part-spec : {M : Type 1} → statement M
 part-spec =

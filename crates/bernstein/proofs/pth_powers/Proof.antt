@@ -1,28 +1,24 @@
 -- `bernstein::pth_powers` meets its contract: after i turns the first i places are written. Assumes nothing.
 use borrow.Author.Needs.{needs}
 use native.Mathlib.Omega.{arith}
-use Prim.Native.Nat.{ℕ, _-_, _≤_, _%_}
-use mathlib.Core.Path.{_≡_, _∙_}
-use lib.Seq.{sets}
-use lib.ListN.{length}
+use Prim.Native.Nat.{_-_, _%_}
+use mathlib.Core.Path.{ap, _∙_}
 use Rattle.buffer.specs.Written.{length-part}
-use Rattle.definition.specs.Lists.{tabulate, coefficient}
+use Rattle.definition.specs.Lists.{coefficient}
 use Rattle.product.specs.Segments.{segment}
-use Rattle.route.specs.Table.{table-first, table-next}
-use Rattle.bernstein.specs.Steps.{place-kept}
+use Rattle.route.specs.Filling.{Filling, filling-first, filling-last, filling-next, filling-place}
 use Rattle.bernstein.specs.Split.{pthPowers-reduced}
 use Rattle.bernstein.proofs.pth_powers.Statement.{statement}
 use Rattle.bernstein.proofs.pth_powers.Tie as tie
 
 abbrev Inv-loop : tie.InvT-loop
-Inv-loop p w₀ a k t i₀ w i =
-    (i ≤ k) × (length w ≡ length w₀) × (w ≡ sets w₀ t (tabulate i (λ x. coefficient (segment w₀ a k) x % p)))
+Inv-loop p w₀ a k t i₀ w i = Filling (λ x. coefficient (segment w₀ a k) x % p) t k w₀ w i
 
 abbrev μ-loop : tie.MeasureT-loop
 μ-loop p w₀ a k t i₀ w i = k - i
 
 loop-holds : tie.Need-loop-holds Inv-loop μ-loop
-loop-holds c = (search needs, search needs, table-first _ _ _)
+loop-holds c = filling-first _ _ _ _
 
 add-w : tie.Need-add-w Inv-loop μ-loop
 add-w c = search needs
@@ -54,13 +50,8 @@ loop-less c = search needs
 loop-again : tie.Need-loop-again Inv-loop μ-loop
 loop-again c =
     let at = c .before .before in
-    let start = at .before in
-    let rule : ℕ → ℕ = λ x. coefficient (segment (start .args .w .now) (start .args .a) (start .args .k)) x % start .args .p in (
-      search needs,
-      search needs,
-      rw (at .loop .inv .2, place-kept (start .pre .1) rule (at .loop .i) (omega arith) (at .loop .i) (c .before .loop-test .taken))
-          (table-next _ _ rule (at .loop .i)),
-    )
+    filling-next (at .loop .inv) (c .before .loop-test .taken)
+    (ap (λ x. x % at .before .args .p) (filling-place (at .loop .inv) (at .before .pre .1) (at .loop .i) (c .before .loop-test .taken)))
 
 same-length : tie.Need-same-length Inv-loop μ-loop
 same-length c = search needs
@@ -70,8 +61,7 @@ returns c =
     let at = c .before in
     let start = at .before in
     let size = length-part (start .args .w .now) (start .args .a) (start .args .k) (start .pre .1 .source) in
-    let all : at .loop .i ≡ start .args .k = omega arith in
-    at .loop .inv .2 ∙ rw (all, pthPowers-reduced (start .pre .0), size)
+    filling-last (at .loop .inv) (omega arith) ∙ rw (pthPowers-reduced (start .pre .0), size)
 
 pub pth-powers-spec : {M : Type 1} → statement M
 pth-powers-spec =

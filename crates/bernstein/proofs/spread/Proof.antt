@@ -2,21 +2,17 @@
 use borrow.Author.Needs.{needs}
 use native.Mathlib.Nat.{add-sub-cancel-left}
 use native.Mathlib.Omega.{arith}
-use Prim.Native.Nat.{_-_, _≤_}
-use mathlib.Core.Path.{_≡_, _∙_}
-use lib.Seq.{sets}
-use lib.ListN.{length}
+use Prim.Native.Nat.{_-_}
+use mathlib.Core.Path.{_∙_}
 use Rattle.definition.specs.Bernstein.{spread, spreadList}
-use Rattle.definition.specs.Lists.{tabulate, coefficient}
+use Rattle.definition.specs.Lists.{coefficient}
 use Rattle.product.specs.Segments.{segment}
-use Rattle.route.specs.Table.{table-first, table-next}
-use Rattle.bernstein.specs.Steps.{table-kept}
+use Rattle.route.specs.Filling.{Filling, filling-first, filling-kept, filling-last, filling-next}
 use Rattle.bernstein.proofs.spread.Statement.{statement}
 use Rattle.bernstein.proofs.spread.Tie as tie
 
 abbrev Inv-loop : tie.InvT-loop
-Inv-loop p n w₀ a k t end i₀ w i =
-    (i ≤ n) × (length w ≡ length w₀) × (w ≡ sets w₀ t (tabulate i (spread p (coefficient (segment w₀ a k)))))
+Inv-loop p n w₀ a k t end i₀ w i = Filling (spread p (coefficient (segment w₀ a k))) t n w₀ w i
 
 abbrev μ-loop : tie.MeasureT-loop
 μ-loop p n w₀ a k t end i₀ w i = n - i
@@ -25,7 +21,7 @@ add-end : tie.Need-add-end Inv-loop μ-loop
 add-end c = search needs
 
 loop-holds : tie.Need-loop-holds Inv-loop μ-loop
-loop-holds c = (search needs, search needs, table-first _ _ _)
+loop-holds c = filling-first _ _ _ _
 
 mul-spread-coefficient : tie.Need-mul-spread-coefficient Inv-loop μ-loop
 mul-spread-coefficient c = search needs
@@ -59,29 +55,17 @@ loop-less c = search needs
 
 loop-again : tie.Need-loop-again Inv-loop μ-loop
 loop-again c =
-    let at = c .before .before .before .before in
-    let start = at .before .before in
-    let rule = spread (start .args .p) (coefficient (segment (start .args .w .now) (start .args .a) (start .args .k))) in (
-      search needs,
-      search needs,
-      rw (
-        c .spread-coefficient .ensures,
-        add-sub-cancel-left,
-        at .loop .inv .2,
-        table-kept (start .pre .1) rule (at .loop .i) (omega arith),
-      )
-          (table-next _ _ rule (at .loop .i)),
-    )
+    let turn = c .before .before .before in
+    let at = turn .before in
+    filling-next (at .loop .inv) (turn .loop-test .taken)
+    (c .spread-coefficient .ensures ∙ rw (add-sub-cancel-left, filling-kept (at .loop .inv) (at .before .before .pre .1)))
 
 same-length : tie.Need-same-length Inv-loop μ-loop
 same-length c = search needs
 
 returns : tie.Need-returns Inv-loop μ-loop
 unfolding spreadList
-returns c =
-    let at = c .before in
-    let all : at .loop .i ≡ at .before .before .args .n = omega arith in
-    at .loop .inv .2 ∙ rw all
+returns c = filling-last (c .before .loop .inv) (omega arith)
 
 pub spread-spec : {M : Type 1} → statement M
 spread-spec =

@@ -1,23 +1,20 @@
 -- `route::put` meets its contract: after k turns the first k places are written. Assumes nothing.
 use borrow.Author.Needs.{needs}
 use native.Mathlib.Omega.{arith}
-use Prim.Native.Nat.{_-_, _≤_}
-use lib.ListN.{length}
-use lib.Seq.{sets}
-use mathlib.Core.Path.{_≡_, _∙_}
-use Rattle.definition.specs.Lists.{coefficient, tabulate}
-use Rattle.route.specs.Table.{table-first, table-next}
+use Prim.Native.Nat.{_-_}
+use Rattle.definition.specs.Lists.{coefficient}
+use Rattle.route.specs.Filling.{Filling, filling-first, filling-last, filling-next}
 use Rattle.route.proofs.put.Statement.{statement}
 use Rattle.route.proofs.put.Tie as tie
 
 abbrev Inv-loop : tie.InvT-loop
-Inv-loop l n w₀ t k₀ w k = (k ≤ n) × (length w ≡ length w₀) × (w ≡ sets w₀ t (tabulate k (coefficient l)))
+Inv-loop l n w₀ t k₀ w k = Filling (coefficient l) t n w₀ w k
 
 abbrev μ-loop : tie.MeasureT-loop
 μ-loop l n w₀ t k₀ w k = n - k
 
 loop-holds : tie.Need-loop-holds Inv-loop μ-loop
-loop-holds c = (search needs, search needs, table-first _ _ _)
+loop-holds c = filling-first _ _ _ _
 
 place-requires : tie.Need-place-requires Inv-loop μ-loop
 place-requires c κs = search needs
@@ -38,20 +35,13 @@ loop-less : tie.Need-loop-less Inv-loop μ-loop
 loop-less c = search needs
 
 loop-again : tie.Need-loop-again Inv-loop μ-loop
-loop-again c =
-    let at = c .before .before in (
-      search needs,
-      search needs,
-      rw (c .place .ensures, at .loop .inv .2) (table-next _ _ _ (at .loop .k)),
-    )
+loop-again c = filling-next (c .before .before .loop .inv) (c .before .loop-test .taken) (c .place .ensures)
 
 same-length : tie.Need-same-length Inv-loop μ-loop
 same-length c = search needs
 
 returns : tie.Need-returns Inv-loop μ-loop
-returns c =
-    let all : c .before .loop .k ≡ c .before .before .before .before .args .n = omega arith in
-    c .before .loop .inv .2 ∙ rw all
+returns c = filling-last (c .before .loop .inv) (omega arith)
 
 pub put-spec : {M : Type 1} → statement M
 put-spec =

@@ -7,7 +7,7 @@ use mathlib.Core.Path.{sym, _∙_}
 use Rattle.definition.specs.Lists.{coefficient}
 use Rattle.product.specs.Segments.{segment}
 use Rattle.kinoshita_li.specs.Division.{complement}
-use Rattle.kinoshita_li.specs.Filling.{Filling, filling-first, filling-kept, filling-last, filling-next}
+use Rattle.route.specs.Filling.{Filling, filling-first, filling-kept, filling-last, filling-next}
 use Rattle.kinoshita_li.proofs.division.complement.Statement.{statement}
 use Rattle.kinoshita_li.proofs.division.complement.Tie as tie
 

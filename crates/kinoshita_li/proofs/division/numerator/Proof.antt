@@ -7,7 +7,7 @@ use mathlib.Core.List.{reverse}
 use mathlib.Core.Path.{sym, _∙_}
 use Rattle.definition.specs.Lists.{coefficient}
 use Rattle.kinoshita_li.specs.Division.{reversed, reversed-table}
-use Rattle.kinoshita_li.specs.Filling.{Filling, filling-first, filling-last, filling-next}
+use Rattle.route.specs.Filling.{Filling, filling-first, filling-last, filling-next}
 use Rattle.kinoshita_li.proofs.division.numerator.Statement.{statement}
 use Rattle.kinoshita_li.proofs.division.numerator.Tie as tie
 

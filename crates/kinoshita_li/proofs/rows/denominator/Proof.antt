@@ -4,7 +4,7 @@ use native.Mathlib.Omega.{arith}
 use Prim.Native.Nat.{_*_, _-_}
 use native.Mathlib.Nat.{zero-add}
 use Rattle.definition.specs.KinoshitaLi.{denominator, plane, planePlace}
-use Rattle.kinoshita_li.specs.Filling.{Filling, filling-first, filling-last, filling-next}
+use Rattle.route.specs.Filling.{Filling, filling-first, filling-last, filling-next}
 use Rattle.kinoshita_li.specs.Steps.{row-positive}
 use Rattle.kinoshita_li.proofs.rows.denominator.Statement.{statement}
 use Rattle.kinoshita_li.proofs.rows.denominator.Tie as tie

@@ -6,7 +6,7 @@ use native.Mathlib.Nat.{mod-le}
 use mathlib.Core.Path.{_∙_}
 use Rattle.definition.specs.KinoshitaLi.{evenPart, plane, planePlace}
 use Rattle.product.specs.Planes.{held}
-use Rattle.kinoshita_li.specs.Filling.{Filling, filling-first, filling-held, filling-last, filling-next}
+use Rattle.route.specs.Filling.{Filling, filling-first, filling-held, filling-last, filling-next}
 use Rattle.kinoshita_li.specs.Steps.{row-positive}
 use Rattle.kinoshita_li.proofs.rows.even_part.Statement.{statement}
 use Rattle.kinoshita_li.proofs.rows.even_part.Tie as tie

@@ -5,7 +5,7 @@ use Prim.Native.Nat.{_*_, _-_}
 use mathlib.Core.Path.{_∙_}
 use Rattle.definition.specs.KinoshitaLi.{plane, planePlace, squared}
 use Rattle.product.specs.Planes.{held}
-use Rattle.kinoshita_li.specs.Filling.{Filling, filling-first, filling-held, filling-last, filling-next}
+use Rattle.route.specs.Filling.{Filling, filling-first, filling-held, filling-last, filling-next}
 use Rattle.kinoshita_li.specs.Steps.{row-positive}
 use Rattle.kinoshita_li.proofs.rows.squared.Statement.{statement}
 use Rattle.kinoshita_li.proofs.rows.squared.Tie as tie
