@@ -1,11 +1,14 @@
 // The four routes as C functions, for the comparison tests and the benchmark. Each tests what its route requires, and turns a call down
-// that it does not take: it gives back 2^64 - 1, which is no weight, and changes no buffer.
+// that it does not take: it gives back a number that is no weight, and changes no buffer.
 ghost use lib.ListN.{length};
 ghost use Rattle.definition.specs.Prime.{Prime};
 ghost use Rattle.definition.specs.Ranged.{blockLength};
 ghost use Rattle.definition.specs.Weight.{bernsteinWeight, hornerWeight, kinoshitaLiWeight, rangedWeight};
 ghost use Rattle.route.specs.Contract.{Lent};
 ghost use Rattle.trial.specs.Tried.{Decides, Tried};
+
+// What a call gives back that is turned down: 2^64 - 1.
+const TURNED_DOWN: u64 = 18446744073709551615;
 
 // Whether a route takes the modulus, the order and the counts of the lists.
 fn takes(p: u32, n: usize, m: usize, places: usize, work: usize) -> bool
@@ -57,7 +60,7 @@ pub extern "C" fn trial_horner(
     if takes(p, n, f.len(), out.len(), w.len()) {
         horner::horner(p, n, f, g, out, w)
     } else {
-        18446744073709551615
+        TURNED_DOWN
     }
 }
 
@@ -78,7 +81,7 @@ pub extern "C" fn trial_ranged(
     if takes(p, n, f.len(), out.len(), w.len()) {
         ranged::ranged(p, n, f, g, out, w)
     } else {
-        18446744073709551615
+        TURNED_DOWN
     }
 }
 
@@ -99,7 +102,7 @@ pub extern "C" fn trial_bernstein(
     if takes_prime(p, n, f.len(), out.len(), w.len()) {
         bernstein::bernstein(p, n, f, g, out, w)
     } else {
-        18446744073709551615
+        TURNED_DOWN
     }
 }
 
@@ -120,6 +123,6 @@ pub extern "C" fn trial_kinoshita_li(
     if takes(p, n, f.len(), out.len(), w.len()) {
         kinoshita_li::kinoshita_li(p, n, f, g, out, w)
     } else {
-        18446744073709551615
+        TURNED_DOWN
     }
 }
