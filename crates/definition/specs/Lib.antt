@@ -13,6 +13,7 @@
 --   Taylor         the coefficients in powers of (z - c) that decide whether two answers are equal
 --   Reversion      the reverse series
 --   Chain          the running series after some cycles
+--   Calls          what compose, reverse, the opening of a chain and a cycle promise
 --   Text           decimal digits and the two printed forms
 --   Job            the job file
 pub mod Lists
@@ -28,5 +29,6 @@ pub mod Answer
 pub mod Taylor
 pub mod Reversion
 pub mod Chain
+pub mod Calls
 pub mod Text
 pub mod Job

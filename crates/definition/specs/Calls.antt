@@ -1,0 +1,52 @@
+-- What each call promises, for every input: the number that it returns, its weight, and what each buffer lent to it holds afterwards. A name
+-- with a prime (′) is a value after the call. p is the modulus, n the order, `done` the count of cycles done.
+--
+--   Compose   compose: the outer list f, the inner list g, the output, the work buffer
+--   Reverse   reverse: the series g, the output, the work buffer
+--   Open      the opening of a chain, with the running buffer s
+--   Cycle     a cycle of a chain, by its record (p, n, done), the cycle list c, the running buffer s, the work buffer
+use Prim.Native.Nat.{ℕ}
+use mathlib.Core.List.{List}
+use mathlib.Core.Logic.{_≢_}
+use mathlib.Core.Path.{_≡_}
+use lib.ListN.{length}
+use Rattle.definition.specs.Answer.{answered, cleared, kept}
+use Rattle.definition.specs.Chain.{counted}
+use Rattle.definition.specs.Refusal.{composeRefusal, composeWork, cycleRefusal, cycleWork, openRefusal, reverseRefusal}
+use Rattle.definition.specs.Reversion.{Reversion, identity}
+use Rattle.definition.specs.Substitution.{composed}
+use Rattle.definition.specs.Weight.{weight}
+
+pub record Compose (route p n : ℕ) (f g out out′ work work′ : List ℕ) (number weight′ : ℕ) : Type 0 where
+  pub refusal : number ≡ composeRefusal route p n f g (length out) (length work)
+  pub weighs : weight′ ≡ answered number (weight route p n (length f))
+  pub output : out′ ≡ kept number (composed p n f g) out
+  pub clears : work′ ≡ kept number (cleared (composeWork n (length f)) work) work
+
+-- an accepted call leaves the only reverse series, which is one from the other side too; number 9 comes only where there is none
+pub record Reverse (p n : ℕ) (g out out′ work work′ : List ℕ) (number weight′ : ℕ) : Type 0 where
+  pub refusal : number ≡ reverseRefusal p n g (length out) (length work)
+  pub weighs : weight′ ≡ 0
+  pub reverses : number ≡ 0 → Reversion p n g out′
+  pub only : number ≡ 0 → (h : List ℕ) → Reversion p n g h → h ≡ out′
+  pub symmetric : number ≡ 0 → composed p n out′ g ≡ identity n
+  pub none : number ≡ 9 → (h : List ℕ) → Reversion p n g h → ⊥
+  pub refused : number ≢ 0 → out′ ≡ out
+  pub clears : work′ ≡ kept number (cleared (composeWork n (length g)) work) work
+
+pub record Open (p n : ℕ) (s s′ : List ℕ) (number weight′ p′ n′ done′ : ℕ) : Type 0 where
+  pub refusal : number ≡ openRefusal p n (length s)
+  pub weighs : weight′ ≡ 0
+  pub modulus : p′ ≡ answered number p
+  pub order : n′ ≡ answered number n
+  pub none-done : done′ ≡ 0
+  pub running : s′ ≡ kept number (identity n) s
+
+pub record Cycle (route p n done : ℕ) (c s s′ work work′ : List ℕ) (number weight′ p′ n′ done′ : ℕ) : Type 0 where
+  pub refusal : number ≡ cycleRefusal route p n done c s (length work)
+  pub weighs : weight′ ≡ answered number (weight route p n (length c))
+  pub modulus : p′ ≡ p
+  pub order : n′ ≡ n
+  pub counts : done′ ≡ counted number done
+  pub running : s′ ≡ kept number (composed p n c s) s
+  pub clears : work′ ≡ kept number (cleared (cycleWork n (length c)) work) work
