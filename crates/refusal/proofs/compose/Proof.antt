@@ -1,5 +1,6 @@
 -- `refusal::compose` meets its contract: each test is passed over until one fires. Assumes nothing.
 use borrow.Author.Needs.{needs}
+use native.Mathlib.Omega.{arith}
 use Prim.Native.Nat.{ℕ}
 use mathlib.Core.List.{List, _∷_}
 use mathlib.Core.Path.{_≡_}
@@ -109,7 +110,7 @@ returns-7 c =
     let six = c .before .before in
     past-lists (six .before) _
     (passes _ _ (equal-places _ _ (six .if6 .left))
-    (fires _ _ (short-work _ _ (c .before .work-places .ensures) (c .if7 .taken))))
+    (fires _ _ (short-work _ _ (c .before .work-places .ensures) (omega (arith, c .if7 .taken)))))
 
 either-exceeds-requires : tie.Need-either-exceeds-requires
 either-exceeds-requires c κs = search needs

@@ -1,5 +1,6 @@
 -- `refusal::cycle` meets its contract: each test is passed over until one fires. Assumes nothing.
 use borrow.Author.Needs.{needs}
+use native.Mathlib.Omega.{arith}
 use Prim.Native.Nat.{ℕ}
 use lib.Dec.{ltb}
 use lib.ListN.{length}
@@ -139,7 +140,7 @@ returns-9 c =
     past-work (seven .before .before) _
     (passes _ _ (told (seven .before .either-exceeds .ensures) (seven .if7 .left))
     (passes _ _ (told (eight .before .either-has-constant .ensures) (eight .if8 .left))
-    (fires _ _ (full _ (c .if9 .taken)))))
+    (fires _ _ (full _ (omega (arith, c .if9 .taken))))))
 
 returns-10 : tie.Need-returns-10
 unfolding cycleRefusal
