@@ -199,7 +199,6 @@ pub fn reverse(tally: &mut Tally, random: &mut Random) {
             (2, vec![0, 1], 0),
             (2, vec![1, 1], 9),
             (4096, vec![0, 0, 1], 9),
-            (4096, vec![0, 1], 0),
         ] {
             edges.at(number, |input| {
                 (input.p, input.n, input.inner) = (p, n, series);

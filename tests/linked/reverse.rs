@@ -60,7 +60,7 @@ pub fn random_series(tally: &mut Tally, random: &mut Random) {
 /// Order 4096. The second implementation is quick for short series. The reverse of ax/(1 - bx), all
 /// of whose places are in use, is x/(a + bx).
 pub fn largest_order(tally: &mut Tally, random: &mut Random) {
-    for p in [2, 7, LARGEST_MODULUS] {
+    for p in [2, LARGEST_MODULUS] {
         one(tally, random, p, LARGEST_ORDER, 4);
         let (a, b) = (random.non_zero(p), random.non_zero(p));
         let inverse = field::inverse(p, a);

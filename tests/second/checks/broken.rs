@@ -24,7 +24,7 @@ pub const UNFIT_MODULI: [u64; 10] = [
 pub const UNFIT_ORDERS: [u64; 6] = [0, 4097, 4098, 1 << 32, (1 << 32) + 1, u64::MAX];
 
 /// The largest order for which buffers are made as long as it asks.
-const LARGEST_MADE: u64 = 4098;
+const LARGEST_MADE: u64 = 4097;
 
 impl Input {
     /// An input that the call accepts, with dirty buffers.

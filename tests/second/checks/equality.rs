@@ -126,6 +126,7 @@ pub fn exhaustive_pairs<L: Library>(tally: &mut Tally, random: &mut Random) {
     }
 }
 
+/// All pairs of these outer lists, each answered by every route and compared by one of them.
 fn exhaustive_outer_lists<L: Library>(
     tally: &mut Tally,
     random: &mut Random,
@@ -137,7 +138,10 @@ fn exhaustive_outer_lists<L: Library>(
     let mut answers = Vec::new();
     for (i, f) in outers.into_iter().enumerate() {
         let case = Case { p, n, f, g: g.to_vec() };
-        let outputs = [1, 2, 3, 4].map(|route| answer::<L>(tally, random, route, false, &case));
+        let outputs = [1, 2, 3, 4].map(|route| {
+            let chained = in_chain(random, &case);
+            answer::<L>(tally, random, route, chained, &case)
+        });
         let deciding = deciding_coefficients(p, &case.f, g, n);
         answers.push((case.f, outputs[i % 4].clone(), deciding));
     }
