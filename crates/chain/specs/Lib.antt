@@ -1,6 +1,8 @@
--- Running series and sequences of calls of a chain.
+-- Chains.
 --
---   Running    laws of the running series: split of a chain in two, its places
+--   Answered   what opening and a cycle promise, of a refused and of an accepted call
+--   Running    laws of the running series: its places, and a chain split in two
 --   Sequence   after every sequence of calls the running series is the composition of all cycles accepted
+pub mod Answered
 pub mod Running
 pub mod Sequence

@@ -39,10 +39,10 @@ module _ {route p n : ℕ} (f g out work : List ℕ) {number : ℕ} (tested : nu
   pub compose-accepted : {out′ then work′ : List ℕ} {result : ℕ} → number ≡ 0 → length out ≡ n
       → Route p n f g (weight route p n (length f)) work then result → Finished (composeWork n (length f)) then work′ out out′
       → Compose route p n f g out out′ work work′ 0 result
-  compose-accepted zero size run done =
+  compose-accepted accepted size run done =
       let finished = route-finished run (le-refl _) size done in
       record {
-        refusal = sym zero ∙ tested;
+        refusal = sym accepted ∙ tested;
         weighs = run .sum ∙ sym (answered-accepted _ refl);
         output = finished .0 ∙ sym (kept-accepted _ out refl);
         clears = finished .1 ∙ sym (kept-accepted _ work refl);
