@@ -9,7 +9,7 @@
 --                         x, c(s) for a running series s, and what cycles without constant term leave, are running series
 --   after-composed        cycles from t(s) leave what they leave from t, composed with s: associativity
 --   running-append        the running series of cs and then ds is that of ds alone composed with that of cs
-use Prim.Native.Nat.{ℕ, zero, suc, _*_, _%_, _<_}
+use Prim.Native.Nat.{ℕ, zero, suc, _<_}
 use mathlib.Core.List.{List, List·Memᴰ, List·Memᴰ·head, List·Memᴰ·tail, [], _∷_, _++_}
 use mathlib.Core.Path.{_≡_, refl, sym, ap, _∙_}
 use lib.ListN.{length}

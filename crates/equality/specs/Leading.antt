@@ -4,11 +4,10 @@
 --   leading-agree     and give the same first ⌈n/v⌉ coefficients in powers of (z - c)
 --   leading-decides   two compositions with such inner lists are equal exactly when these coefficients are
 use Prim.Native.Nat.{ℕ, zero, suc, _+_, _-_, _<_, _≤_}
-use mathlib.Core.Bool.{cond, false}
+use mathlib.Core.Bool.{false}
 use mathlib.Core.List.{List}
 use mathlib.Core.Logic.{_↔_}
 use mathlib.Core.Path.{_≡_, refl}
-use lib.Dec.{eqb}
 use native.Mathlib.Omega.{arith}
 use Rattle.algebra.specs.Agree.{Agree}
 use Rattle.algebra.specs.Bounded.{below}
