@@ -51,9 +51,9 @@ finish-requires c κs =
 abbrev tested : tie.After-struct-known → tie.Else1
 tested c = c .before .before .before .before .before .before .before .before .before .before .before .before .before .before
 
-add-t27 : tie.Need-add-t27
+add-self : tie.Need-add-self
 unfolding mostCycles
-add-t27 c = omega (arith, bounds (tested c) .not-full)
+add-self c = omega (arith, bounds (tested c) .not-full)
 
 same-length-2 : tie.Need-same-length-2
 same-length-2 c = search needs
@@ -80,7 +80,7 @@ cycle-spec =
     run-requires
     cycle-places-requires
     finish-requires
-    add-t27
+    add-self
     same-length-2
     same-length-3
     returns-2)
