@@ -3,7 +3,7 @@
 --   ConstantFree cs       no cycle of cs has a constant term
 --   RunningSeries p n s   s has n places, all below p, and no constant term
 --   after-++              first cs, then ds
---   identity-places composed-places   x and c(s) have n places
+--   identity-places       x has n places
 --   composed-identity     x composed with a running series is that series
 --   identity-series composed-series after-series running-series
 --                         x, c(s) for a running series s, and what cycles without constant term leave, are running series
@@ -17,7 +17,7 @@ use native.Mathlib.Nat.{mod-lt, mul-zero, zero-add, zero-mod, zero-mul}
 use native.Mathlib.Omega.{arith}
 use Rattle.algebra.specs.Agree.{Agree, agree-equal, agree-refl, agree-trans}
 use Rattle.algebra.specs.Bridge.{series-of, composed-listed, identity-listed, listed-agree, listed-series, series-listed}
-use Rattle.algebra.specs.Composition.{composed-assoc, series-constant}
+use Rattle.algebra.specs.Composition.{composed-assoc, length-composed, series-constant}
 use Rattle.algebra.specs.Lists.{coefficient-tabulate, length-tabulate, sum-zero}
 use Rattle.algebra.specs.Residue.{residues, reduction}
 use Rattle.algebra.specs.Series.{indeterminate}
@@ -53,10 +53,6 @@ pub identity-places : (n : ℕ) → length (identity n) ≡ n
 unfolding identity
 identity-places n = length-tabulate n identityAt
 
-pub composed-places : (p n : ℕ) (c s : List ℕ) → length (composed p n c s) ≡ n
-unfolding composed
-composed-places p n c s = length-tabulate n (composedAt p c s)
-
 -- a table whose rule is 0 at 0
 tabulate-constant : (n : ℕ) (f : ℕ → ℕ) → f 0 ≡ 0 → coefficient (tabulate n f) 0 ≡ 0
 unfolding coefficient tabulate
@@ -91,7 +87,7 @@ module _ {p : ℕ} (l : 1 < p) (n : ℕ) where
   pub composed-series : (c s : List ℕ) → coefficient c 0 ≡ 0 → coefficient s 0 ≡ 0 → RunningSeries p n (composed p n c s)
   unfolding composed composedAt
   composed-series c s e z = record {
-    places = composed-places p n c s;
+    places = length-composed p n c s;
     below = λ k b. rw (coefficient-tabulate n (composedAt p c s) k b) (mod-lt (substituted c s k) positive);
     no-constant = tabulate-constant n (composedAt p c s) (rw (substituted-constant c s e z) (zero-mod p));
   }

@@ -21,7 +21,8 @@ use mathlib.Core.Logic.{_⊎_, inl, inr}
 use mathlib.Core.Path.{_≡_, refl, sym, ap, _∙_}
 use lib.ListN.{length, length-append}
 use native.Mathlib.Omega.{arith}
-use Rattle.chain.specs.Running.{ConstantFree, after-++, composed-places, identity-places}
+use Rattle.algebra.specs.Composition.{length-composed}
+use Rattle.chain.specs.Running.{ConstantFree, after-++, identity-places}
 use Rattle.definition.specs.Answer.{answered, kept}
 use Rattle.definition.specs.Calls.{Cycle, Open}
 use Rattle.definition.specs.Chain.{after, counted, running}
@@ -79,7 +80,7 @@ running-accepted p n (suc number) c cs = refl
 
 kept-places : (p n number : ℕ) (c s : List ℕ) → length s ≡ n → length (kept number (composed p n c s) s) ≡ n
 unfolding kept
-kept-places p n zero c s e = composed-places p n c s
+kept-places p n zero c s e = length-composed p n c s
 kept-places p n (suc number) c s e = e
 
 -- number 0 comes only where fewer cycles than the most are done

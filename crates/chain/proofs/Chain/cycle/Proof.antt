@@ -68,7 +68,7 @@ returns-2 c =
     let run = places .before .before .before in
     let args = begin (tested c) .args in
     cycle-accepted (args .list .now) (args .running .now) (args .work .now) (tested c .before .cycle .ensures) (tested c .if1 .left)
-    (bounds (tested c) .running) (run .run .ensures) (rw (places .cycle-places .ensures) at (finish .finish .ensures))
+    (bounds (tested c) .running) (run .run .ensures) (places .cycle-places .ensures) (finish .finish .ensures)
 
 pub cycle-spec : {M : Type 1} → statement M
 cycle-spec =
