@@ -1,0 +1,2 @@
+// Reversion.
+fn unit(n: usize) -> usize { n }
