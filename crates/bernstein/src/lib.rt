@@ -160,17 +160,16 @@ fn level(p: u32, n: usize, m: usize, w: &mut [u32]) -> u64
     parts(p, n, m, w)
 }
 
-// f(g) modulo x^n and p by route 3, for a prime p.
-pub fn bernstein(p: u32, n: usize, f: &[u32], g: &[u32], out: &mut [u32], w: &mut [u32]) -> u64
-    requires { ⌜ Lent p n (length (now f)) (length (now out)) (length (now w)) × Prime p ⌝ }
-    ensures { λ r. ⌜ Route p n (now (f .entry)) (now (g .entry)) (bernsteinWeight p n (length (now (f .entry)))) (now (out .exit))
+// Route 3: f(g) modulo x^n, for a prime p, at place 0 of w.
+pub fn bernstein(p: u32, n: usize, f: &[u32], g: &[u32], w: &mut [u32]) -> u64
+    requires { ⌜ Lent p n (length (now f)) (length (now w)) × Prime p ⌝ }
+    ensures { λ r. ⌜ Route p n (now (f .entry)) (now (g .entry)) (bernsteinWeight p n (length (now (f .entry))))
         (now (w .entry)) (now (w .exit)) r ⌝ }
 {
     let m = f.len();
-    let places = route::work_places(n, m);
     route::put(g, n, w, 0);
     route::put(f, m, w, n);
     let weight = level(p, n, m, w);
-    route::finish(w, n + m, out, places);
+    buffer::move_down(w, n + m, 0, n);
     weight
 }

@@ -33,15 +33,14 @@ pub fn horner_part(p: u32, n: usize, f: &[u32], w: &mut [u32], b: usize, t: usiz
     weight
 }
 
-// Route 1: f(g) modulo x^n.
-pub fn horner(p: u32, n: usize, f: &[u32], g: &[u32], out: &mut [u32], w: &mut [u32]) -> u64
-    requires { ⌜ Lent p n (length (now f)) (length (now out)) (length (now w)) ⌝ }
+// Route 1: f(g) modulo x^n, at place 0 of w.
+pub fn horner(p: u32, n: usize, f: &[u32], g: &[u32], w: &mut [u32]) -> u64
+    requires { ⌜ Lent p n (length (now f)) (length (now w)) ⌝ }
     ensures { λ r. ⌜ Route p n (now (f .entry)) (now (g .entry)) (hornerWeight n (length (now (f .entry))))
-        (now (out .exit)) (now (w .entry)) (now (w .exit)) r ⌝ }
+        (now (w .entry)) (now (w .exit)) r ⌝ }
 {
-    let places = route::work_places(n, f.len());
     route::put(g, n, w, 0);
     let weight = horner_part(p, n, f, w, 0, n);
-    route::finish(w, n, out, places);
+    buffer::move_down(w, n, 0, n);
     weight
 }

@@ -28,9 +28,9 @@ use Rattle.definition.specs.Refusal.{composeWork}
 use Rattle.definition.specs.Substitution.{composed, constant}
 use Rattle.definition.specs.Weight.{halvings, kinoshitaLiWeight}
 use Rattle.product.specs.Segments.{segment}
-use Rattle.route.specs.Contract.{Finished, Lent, Route, lent-places, route-finished}
+use Rattle.route.specs.Contract.{Lent, Route, lent-places, route-moved}
 use Rattle.route.specs.Table.{written-table}
-use Rattle.route.specs.Within.{Within, segment-sets, within-sets}
+use Rattle.route.specs.Within.{Within, segment-sets, within-sets, within-wider}
 use Rattle.kinoshita_li.specs.Level.{LevelLent, Levelled}
 use Rattle.kinoshita_li.specs.Space.{level-places, level-rows}
 
@@ -81,22 +81,19 @@ module _ {p n q : ℕ} {f w : List ℕ} (lent : FractionLent p n q f w) where
       Q : List ℕ
       Q = plane n (q + 1) (denominator p g)
 
-module _ {p n : ℕ} (f out w : List ℕ) {places : ℕ} (lent : Lent p n (length f) (length out) (length w))
-    (counted : places ≡ composeWork n (length f)) where
-  pub none-done : (g : List ℕ) {v after out′ : List ℕ} → length f ≡ 0 → v ≡ sets w 0 (tabulate n (constant 0)) → Finished 0 places v after out out′
-      → Route p n f g (kinoshitaLiWeight n (length f)) out′ w after 0
-  unfolding kinoshitaLiWeight composeWork
-  none-done g empty put done =
-      route-finished
-      (rw put (within-sets w 0 (tabulate n (constant 0)) (le-refl 0) (rw length-tabulate (omega arith))))
-      (rw put (written-table w 0 (constant 0) n (omega (arith, lent-places lent))) ∙ zeros)
-      (rw (eq-eqb (length f) 0 empty))
-      (lent .output)
-      (rw counted at done)
-    where
-      zeros : tabulate n (constant 0) ≡ composed p n f g
-      zeros = rw (coefficient-beyond f 0 (omega arith), zero-mod) at (composed-constant p n f g (omega arith))
+pub none-done : {p n : ℕ} (f g w : List ℕ) {after : List ℕ} → Lent p n (length f) (length w) → length f ≡ 0
+    → after ≡ sets w 0 (tabulate n (constant 0)) → Route p n f g (kinoshitaLiWeight n (length f)) w after 0
+unfolding kinoshitaLiWeight composeWork
+none-done {p} {n} f g w lent empty put = record {
+  value = rw put (written-table w 0 (constant 0) n (omega (arith, lent-places lent))) ∙ zeros;
+  sum = rw (eq-eqb (length f) 0 empty);
+  within = rw put (within-sets w 0 (tabulate n (constant 0)) (le-refl 0) (rw length-tabulate (omega arith)));
+}
+  where
+    zeros : tabulate n (constant 0) ≡ composed p n f g
+    zeros = rw (coefficient-beyond f 0 (omega arith), zero-mod) at (composed-constant p n f g (omega arith))
 
+module _ {p n : ℕ} (f w : List ℕ) {places : ℕ} (lent : Lent p n (length f) (length w)) (counted : places ≡ composeWork n (length f)) where
   pub places-inside : places ≤ length w
   places-inside = rw counted (lent .enough)
 
@@ -118,11 +115,12 @@ module _ {p n : ℕ} (f out w : List ℕ) {places : ℕ} (lent : Lent p n (lengt
     }
 
     -- l is what the places lent came back as
-    pub some-done : {g l after out′ : List ℕ} {result : ℕ} → length l ≡ places → Fraction p n q f g l result
-        → Finished ((q + 1) * n) places (l ++ drop places w) after out out′
-        → Route p n f g (kinoshitaLiWeight n (length f)) out′ w after result
-    some-done {l} size fraction done =
-        route-finished (rw counted at within) (rw counted at (kept ∙ fraction .value)) (fraction .sum) (lent .output) (rw counted at done)
+    pub some-done : {g l after : List ℕ} {result : ℕ} → length l ≡ places → Fraction p n q f g l result
+        → after ≡ sets (l ++ drop places w) 0 (segment (l ++ drop places w) ((q + 1) * n) n)
+        → Route p n f g (kinoshitaLiWeight n (length f)) w after result
+    some-done {l} size fraction moved =
+        route-moved ((q + 1) * n) (within-wider (le-refl 0) (omega (arith, counted)) within) (kept ∙ fraction .value) (fraction .sum)
+        (omega (arith, within .size, rows-inside, places-inside)) moved
       where
         within : Within 0 places w (l ++ drop places w)
         within = record {

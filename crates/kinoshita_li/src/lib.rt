@@ -17,21 +17,20 @@ fn fraction(p: u32, n: usize, q: usize, f: &[u32], g: &[u32], w: &mut [u32]) -> 
     level::level(p, number::halvings(n), n, q, f.len() - 1, f, w)
 }
 
-// Route 4: f(g) modulo x^n.
-pub fn kinoshita_li(p: u32, n: usize, f: &[u32], g: &[u32], out: &mut [u32], w: &mut [u32]) -> u64
-    requires { ⌜ Lent p n (length (now f)) (length (now out)) (length (now w)) ⌝ }
+// Route 4: f(g) modulo x^n, at place 0 of w.
+pub fn kinoshita_li(p: u32, n: usize, f: &[u32], g: &[u32], w: &mut [u32]) -> u64
+    requires { ⌜ Lent p n (length (now f)) (length (now w)) ⌝ }
     ensures { λ r. ⌜ Route p n (now (f .entry)) (now (g .entry)) (kinoshitaLiWeight n (length (now (f .entry))))
-        (now (out .exit)) (now (w .entry)) (now (w .exit)) r ⌝ }
+        (now (w .entry)) (now (w .exit)) r ⌝ }
 {
     let m = f.len();
-    let places = route::work_places(n, m);
     if m == 0 {
         route::put_constant(0, n, w, 0);
-        route::finish(w, 0, out, places);
         return 0;
     }
+    let places = route::work_places(n, m);
     let q = number::smaller(1, m - 1);
     let weight = fraction(p, n, q, f, g, &mut w[..places]);
-    route::finish(w, (q + 1) * n, out, places);
+    buffer::move_down(w, (q + 1) * n, 0, n);
     weight
 }

@@ -113,18 +113,17 @@ fn compose_span(
     even + odd + product::multiply_add(p, n, w, beside, power, t)
 }
 
-// Route 2: f(g) modulo x^n.
-pub fn ranged(p: u32, n: usize, f: &[u32], g: &[u32], out: &mut [u32], w: &mut [u32]) -> u64
-    requires { ⌜ Lent p n (length (now f)) (length (now out)) (length (now w)) ⌝ }
+// Route 2: f(g) modulo x^n, at place 0 of w.
+pub fn ranged(p: u32, n: usize, f: &[u32], g: &[u32], w: &mut [u32]) -> u64
+    requires { ⌜ Lent p n (length (now f)) (length (now w)) ⌝ }
     ensures { λ r. ⌜ Route p n (now (f .entry)) (now (g .entry)) (rangedWeight blockLength n (length (now (f .entry))))
-        (now (out .exit)) (now (w .entry)) (now (w .exit)) r ⌝ }
+        (now (w .entry)) (now (w .exit)) r ⌝ }
 {
-    let places = route::work_places(n, f.len());
     let levels = rounds(f.len(), BLOCK_LENGTH);
     let t = (levels + 1) * n;
     route::put(g, n, w, 0);
     let weight = powers(p, n, levels, w);
     let sum = weight + compose_span(p, n, BLOCK_LENGTH, f, levels, 0, w, t);
-    route::finish(w, t, out, places);
+    buffer::move_down(w, t, 0, n);
     sum
 }

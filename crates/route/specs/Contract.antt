@@ -1,22 +1,22 @@
--- The contract of a route: f(g) modulo x^n with the weight of its rule, and the work buffer cleared.
+-- The contract of a route: f(g) modulo x^n at place 0 of the work buffer, with the weight of its rule.
 --
---   Lent p n m places work   what every route requires of the modulus and the order, and of the counts of the outer list, of the output and
---                        of the work buffer
+--   Lent p n m work      what every route requires of the modulus and the order, and of the counts of the outer list and of the work buffer
 --   Route                what every route ensures
 --   Finished             the contract of `finish`
 --   copied-segment       a segment that is copied over a whole list
 --   lent-places          the places of work that are lent, as a number
 --   put-within           a route that puts g at place 0, and then works after it, works within the places lent
 --   put-composed         f composed with what `put` wrote is f composed with g
---   route-finished       a route that leaves f(g) at place t of the work buffer, and then finishes
+--   route-moved          a route that leaves f(g) at place t of the work buffer, and then moves it to place 0
+--   route-finished       a route, and then `finish`: the value in the output, and the work buffer cleared
 -- Assumes nothing.
-use Prim.Native.Nat.{ℕ, _+_, _-_, _*_, _<_, _≤_}
-use native.Mathlib.Nat.{add-sub-cancel-left, le-refl, zero-add}
+use Prim.Native.Nat.{ℕ, _+_, _*_, _<_, _≤_}
+use native.Mathlib.Nat.{le-refl, zero-add}
 use native.Mathlib.Omega.{arith}
 use mathlib.Core.Path.{_≡_, _∙_}
 use mathlib.Core.List.{List, _++_, append-nil}
 use lib.ListN.{length, take, drop}
-use lib.Seq.{sets, drop-length}
+use lib.Seq.{sets, drop-length, length-take-le}
 use Rattle.algebra.specs.Composition.{composed-agree}
 use Rattle.algebra.specs.Lists.{coefficient-tabulate, length-tabulate}
 use Rattle.buffer.specs.Written.{length-part}
@@ -26,39 +26,50 @@ use Rattle.definition.specs.Refusal.{composeWork}
 use Rattle.definition.specs.Substitution.{composed}
 use Rattle.product.specs.Segments.{segment}
 use Rattle.route.specs.Table.{written-table}
-use Rattle.route.specs.Within.{Within, cleared-within, within-sets, within-trans, within-wider}
+use Rattle.route.specs.Within.{Within, cleared-within, segment-sets, within-sets, within-trans, within-wider}
 
-pub record Lent (p n m places work : ℕ) : Type 0 where
+pub record Lent (p n m work : ℕ) : Type 0 where
   pub modulus : 0 < p
   pub positive : 0 < n
   pub order : n ≤ 4096
   pub outer : m ≤ 4096
-  pub output : places ≡ n
   pub enough : composeWork n m ≤ work
 
-pub record Route (p n : ℕ) (f g : List ℕ) (weight : ℕ) (out before after : List ℕ) (result : ℕ) : Type 0 where
-  pub output : out ≡ composed p n f g
+pub record Route (p n : ℕ) (f g : List ℕ) (weight : ℕ) (before after : List ℕ) (result : ℕ) : Type 0 where
+  pub value : segment after 0 n ≡ composed p n f g
   pub sum : result ≡ weight
-  pub work : after ≡ cleared (composeWork n (length f)) before
+  pub within : Within 0 (composeWork n (length f)) before after
 
-pub record Finished (t k : ℕ) (before after out out′ : List ℕ) : Type 0 where
-  pub output : out′ ≡ segment before t (length out)
+pub record Finished (k : ℕ) (before after out out′ : List ℕ) : Type 0 where
+  pub output : out′ ≡ segment before 0 (length out)
   pub work : after ≡ cleared k before
 
-pub copied-segment : (w : List ℕ) (t : ℕ) (out : List ℕ) → t + length out ≤ length w
-    → (let part = take (t + length out - t) (drop t w) in part ++ drop (length part) out) ≡ segment w t (length out)
-copied-segment w t out h = rw (add-sub-cancel-left, length-part w t (length out) h, drop-length, append-nil)
+pub copied-segment : (w out : List ℕ) → length out ≤ length w
+    → take (length out) w ++ drop (length (take (length out) w)) out ≡ segment w 0 (length out)
+copied-segment w out h = rw (length-take-le (length out) w h, drop-length, append-nil)
 
-pub route-finished : {p n : ℕ} {f g : List ℕ} {weight t : ℕ} {out out′ before then after : List ℕ} {result : ℕ}
-    → Within 0 (composeWork n (length f)) before then → segment then t n ≡ composed p n f g → result ≡ weight → length out ≡ n
-    → Finished t (composeWork n (length f)) then after out out′ → Route p n f g weight out′ before after result
-route-finished {t = t} {then = then} within value sum size done = record {
-  output = done .output ∙ rw size value;
+pub route-moved : {p n : ℕ} {f g : List ℕ} {weight : ℕ} {before then after : List ℕ} {result : ℕ} (t : ℕ)
+    → Within 0 (composeWork n (length f)) before then → segment then t n ≡ composed p n f g → result ≡ weight
+    → t + n ≤ length then → after ≡ sets then 0 (segment then t n) → Route p n f g weight before after result
+unfolding composeWork
+route-moved {n = n} {then = then} t within value sum fits moved = record {
+  value = rw moved (segment-sets then 0 (segment then t n) n size (omega arith) ∙ value);
   sum = sum;
-  work = done .work ∙ cleared-within within;
+  within = within-trans within (rw moved (within-sets then 0 (segment then t n) (le-refl 0) (rw size (omega arith))));
 }
+  where
+    size : length (segment then t n) ≡ n
+    size = length-part then t n fits
 
-pub lent-places : {p n m places work : ℕ} → Lent p n m places work → 128 * n + 8 * m ≤ work
+pub route-finished : {p n : ℕ} {f g : List ℕ} {weight k : ℕ} {out out′ before then after : List ℕ} {result : ℕ}
+    → Route p n f g weight before then result → composeWork n (length f) ≤ k → length out ≡ n → Finished k then after out out′
+    → (out′ ≡ composed p n f g) × (after ≡ cleared k before)
+route-finished {then = then} route fits size done = (
+  done .output ∙ rw size (route .value),
+  done .work ∙ cleared-within (within-wider (le-refl 0) (rw (zero-add, zero-add) fits) (route .within)),
+)
+
+pub lent-places : {p n m work : ℕ} → Lent p n m work → 128 * n + 8 * m ≤ work
 unfolding composeWork
 lent-places lent = lent .enough
 

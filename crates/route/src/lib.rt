@@ -36,13 +36,13 @@ pub fn put_constant(c: u32, n: usize, w: &mut [u32], t: usize)
     w[t] = c;
 }
 
-// Writes the places of w from t on into `out`, and clears the first k places of w.
-pub fn finish(w: &mut [u32], t: usize, out: &mut [u32], k: usize)
-    requires { ⌜ (t + length (now out) ≤ length (now w)) × (k ≤ length (now w)) ⌝ }
-    ensures { λ _. ⌜ Finished t k (now (w .entry)) (now (w .exit)) (now (out .entry)) (now (out .exit)) ⌝ }
+// Writes the first places of w into `out`, and clears the first k places of w.
+pub fn finish(w: &mut [u32], out: &mut [u32], k: usize)
+    requires { ⌜ (length (now out) ≤ length (now w)) × (k ≤ length (now w)) ⌝ }
+    ensures { λ _. ⌜ Finished k (now (w .entry)) (now (w .exit)) (now (out .entry)) (now (out .exit)) ⌝ }
 {
-    let end = t + out.len();
-    buffer::copy(&w[t..end], out);
+    let end = out.len();
+    buffer::copy(&w[..end], out);
     buffer::clear(w, k);
 }
 

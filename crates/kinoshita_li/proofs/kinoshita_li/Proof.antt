@@ -10,38 +10,23 @@ use Rattle.kinoshita_li.specs.Whole.{fraction-lent, none-done, places-in
 use Rattle.kinoshita_li.proofs.kinoshita_li.Statement.{statement}
 use Rattle.kinoshita_li.proofs.kinoshita_li.Tie as tie
 
-work-places-requires : tie.Need-work-places-requires
-work-places-requires c κs = (c .before .before .before .before .pre .order, c .before .before .before .before .pre .outer)
-
 put-constant-requires : tie.Need-put-constant-requires
 put-constant-requires c κs =
-    let lent = c .before .before .before .before .before .before .before .pre in
+    let lent = c .before .before .before .before .before .pre in
     (lent .positive, omega (arith, lent-places lent))
-
-finish-requires : tie.Need-finish-requires
-finish-requires c κs =
-    let put = c .before .before .before .before in
-    let places = put .before .before .before in
-    let lent = places .before .before .before .before .before .pre in (
-      omega (arith, lent-places lent, lent .output, put .put-constant .kept),
-      omega (arith, lent .enough, places .work-places .ensures, put .put-constant .kept),
-    )
 
 same-length : tie.Need-same-length
 same-length c = search needs
 
-same-length-2 : tie.Need-same-length-2
-same-length-2 c = search needs
-
 returns : tie.Need-returns
 returns c =
-    let finished = c .before .before .before .before in
-    let put = finished .before .before .before .before .before in
+    let put = c .before .before in
     let test = put .before .before in
-    let places = test .before in
-    let start = places .before .before .before .before .before in
-    none-done (start .args .f .now) (start .args .out .now) (start .args .w .now) (start .pre) (places .work-places .ensures)
-    (start .args .g .now) (test .if1 .taken) (put .put-constant .ensures) (finished .finish .ensures)
+    let start = test .before .before .before .before in
+    none-done (start .args .f .now) (start .args .g .now) (start .args .w .now) (start .pre) (test .if1 .taken) (put .put-constant .ensures)
+
+work-places-requires : tie.Need-work-places-requires
+work-places-requires c κs = search needs
 
 sub-smaller : tie.Need-sub-smaller
 sub-smaller c = search needs
@@ -52,7 +37,7 @@ smaller-requires c κs = search needs
 -- an outer list that is not empty
 module _ (c : tie.After-smaller) where
   abbrev counted : tie.After-work-places
-  counted = c .before .before
+  counted = c .before
 
   abbrev start : tie.Start
   start = counted .before .before .before .before .before
@@ -61,11 +46,11 @@ module _ (c : tie.After-smaller) where
   some = omega arith
 
   enough : counted .work-places .result ≤ length (start .args .w .now)
-  enough = places-inside (start .args .f .now) (start .args .out .now) (start .args .w .now) (start .pre) (counted .work-places .ensures)
+  enough = places-inside (start .args .f .now) (start .args .w .now) (start .pre) (counted .work-places .ensures)
 
   inside : (c .smaller .result + 1) * start .args .n + start .args .n ≤ counted .work-places .result
   inside =
-      rows-inside (start .args .f .now) (start .args .out .now) (start .args .w .now) (start .pre) (counted .work-places .ensures) some
+      rows-inside (start .args .f .now) (start .args .w .now) (start .pre) (counted .work-places .ensures) some
       (c .smaller .ensures)
 
 slice-relend-prefix-fraction : tie.Need-slice-relend-prefix-fraction
@@ -78,61 +63,55 @@ fraction-requires : tie.Need-fraction-requires
 fraction-requires c κs =
     let bound = c .before in
     let args = start bound .args in
-    fraction-lent (args .f .now) (args .out .now) (args .w .now) (start bound .pre) (counted bound .work-places .ensures) (some bound)
+    fraction-lent (args .f .now) (args .w .now) (start bound .pre) (counted bound .work-places .ensures) (some bound)
     (bound .smaller .ensures)
 
-add-finish : tie.Need-add-finish
-add-finish c = omega (arith, c .before .before .before .before .before .smaller .ensures)
+add-move-down : tie.Need-add-move-down
+add-move-down c = omega (arith, c .before .before .before .before .before .smaller .ensures)
 
-mul-finish : tie.Need-mul-finish
-mul-finish c =
+mul-move-down : tie.Need-mul-move-down
+mul-move-down c =
     let bound = c .before .before .before .before .before in
     omega (arith, inside bound, enough bound, start bound .good)
 
-finish-requires-2 : tie.Need-finish-requires-2
-finish-requires-2 c κs =
-    let called = c .before .before .before .before in
+move-down-requires : tie.Need-move-down-requires
+move-down-requires c κs =
+    let called = c .before .before .before in
     let bound = called .before .before in
     let came = called .fraction in
     let size =
     length-front (start bound .args .w .now) (came .last .1 .1 .1 .1 .1 .0) (counted bound .work-places .result)
     (came .kept .1 .1 .1 .1 .1 .0) in
-    (omega (arith, size, inside bound, enough bound, start bound .pre .output), omega (arith, size, enough bound))
+    (omega arith, omega (arith, size, inside bound, enough bound))
 
-same-length-3 : tie.Need-same-length-3
-same-length-3 c = search needs
-
-same-length-4 : tie.Need-same-length-4
-same-length-4 c = search needs
+same-length-2 : tie.Need-same-length-2
+same-length-2 c = search needs
 
 returns-2 : tie.Need-returns-2
 returns-2 c =
-    let finished = c .before .before .before .before in
-    let called = finished .before .before .before .before .before in
+    let moved = c .before .before in
+    let called = moved .before .before .before .before in
     let bound = called .before .before in
     let args = start bound .args in
-    some-done (args .f .now) (args .out .now) (args .w .now) (start bound .pre) (counted bound .work-places .ensures) (some bound)
+    some-done (args .f .now) (args .w .now) (start bound .pre) (counted bound .work-places .ensures) (some bound)
     (bound .smaller .ensures) (called .fraction .kept .1 .1 .1 .1 .1 .0 ∙ length-take-le _ _ (enough bound))
-    (called .fraction .ensures) (finished .finish2 .ensures)
+    (called .fraction .ensures) (moved .move-down .ensures)
 
 pub kinoshita-li-spec : {M : Type 1} → statement M
 kinoshita-li-spec =
     tie.close
     (tie.spec
-    work-places-requires
     put-constant-requires
-    finish-requires
     same-length
-    same-length-2
     returns
+    work-places-requires
     sub-smaller
     smaller-requires
     slice-relend-prefix-fraction
     slice-aggregate-fraction
     fraction-requires
-    add-finish
-    mul-finish
-    finish-requires-2
-    same-length-3
-    same-length-4
+    add-move-down
+    mul-move-down
+    move-down-requires
+    same-length-2
     returns-2)

@@ -1,27 +1,20 @@
 -- `route::finish` meets its contract. Assumes nothing.
 use borrow.Author.Needs.{needs}
-use mathlib.Core.Path.{_∙_}
+use native.Mathlib.Nat.{le-of-eq}
+use mathlib.Core.Path.{sym, _∙_}
+use lib.Seq.{length-take-le}
 use Rattle.route.specs.Contract.{copied-segment}
 use Rattle.route.proofs.finish.Statement.{statement}
 use Rattle.route.proofs.finish.Tie as tie
 
-add-end : tie.Need-add-end
-add-end c = search needs
+slice-reshare-prefix-copy : tie.Need-slice-reshare-prefix-copy
+slice-reshare-prefix-copy c = search needs
 
-mul-copy : tie.Need-mul-copy
-mul-copy c = search needs
-
-sub-copy : tie.Need-sub-copy
-sub-copy c = search needs
-
-part-copy-start : tie.Need-part-copy-start
-part-copy-start c = search needs
-
-part-copy-end : tie.Need-part-copy-end
-part-copy-end c = search needs
+slice-aggregate-copy : tie.Need-slice-aggregate-copy
+slice-aggregate-copy c = sym (length-take-le _ _ (c .before .before .before .pre .0))
 
 copy-requires : tie.Need-copy-requires
-copy-requires c κs = search needs
+copy-requires c κs = le-of-eq (length-take-le _ _ (c .before .before .before .before .pre .0))
 
 clear-requires : tie.Need-clear-requires
 clear-requires c κs = search needs
@@ -35,9 +28,9 @@ same-length-2 c = search needs
 returns : tie.Need-returns
 returns c =
     let copied = c .before .before .before .before .before .before in
-    let begin = copied .before .before .before .before .before .before in
+    let begin = copied .before .before .before .before .before in
     record {
-      output = copied .copy .ensures ∙ copied-segment (begin .args .w .now) (begin .args .t) (begin .args .out .now) (begin .pre .0);
+      output = copied .copy .ensures ∙ copied-segment (begin .args .w .now) (begin .args .out .now) (begin .pre .0);
       work = c .before .before .clear .ensures;
     }
 
@@ -45,11 +38,8 @@ pub finish-spec : {M : Type 1} → statement M
 finish-spec =
     tie.close
     (tie.spec
-    add-end
-    mul-copy
-    sub-copy
-    part-copy-start
-    part-copy-end
+    slice-reshare-prefix-copy
+    slice-aggregate-copy
     copy-requires
     clear-requires
     same-length
