@@ -1,2 +1,33 @@
-// Reversion.
-fn unit(n: usize) -> usize { n }
+// Reversion by Newton's iteration: h without constant term such that g(h) is x modulo x^n.
+mod step;
+
+use field::Field;
+ghost use mathlib.Core.Path.{_≡_};
+ghost use Prim.Native.Nat.{_<_};
+ghost use Rattle.reversion.specs.Iteration.{Iterated, Iteration, started};
+ghost use lib.ListN.{length};
+
+// The reverse series below order 2: 0, the inverse of the linear coefficient of g, and zeros.
+fn start(p: u32, g: &[u32], h: &mut [u32])
+    requires { ⌜ (1 < p) × (0 < length (now h)) ⌝ }
+    ensures { λ _. ⌜ now (h .exit) ≡ started p (length (now (h .entry))) (now (g .entry)) ⌝ }
+{
+    let n = h.len();
+    buffer::clear(h, n);
+    if 1 < n {
+        h[1] = Field { modulus: p }.inverse(route::place(g, 1));
+    }
+}
+
+// Newton's iteration from a reverse series below order 2 to one below the order n, the count of h: a step takes order k to 2k - 1.
+fn newton(p: u32, g: &[u32], h: &mut [u32], w: &mut [u32])
+    requires { ⌜ Iteration p (now g) (now h) (now w) ⌝ }
+    ensures { λ _. ⌜ Iterated p (now (g .entry)) (now (h .exit)) (length (now (h .entry))) (now (w .entry)) (now (w .exit)) ⌝ }
+{
+    let n = h.len();
+    let mut k = number::smaller(2, n);
+    while k < n {
+        k = number::smaller(2 * k - 1, n);
+        step::step(p, g, &mut h[..k], w);
+    }
+}

@@ -1,0 +1,22 @@
+-- `refusal::cycle_places` meets its contract. Assumes nothing.
+use borrow.Author.Needs.{needs}
+use mathlib.Core.Path.{refl}
+use Rattle.definition.specs.Refusal.{cycleWork}
+use Rattle.refusal.proofs.cycle_places.Statement.{statement}
+use Rattle.refusal.proofs.cycle_places.Tie as tie
+
+mul-result : tie.Need-mul-result
+mul-result c = search needs
+
+mul-result-2 : tie.Need-mul-result-2
+mul-result-2 c = search needs
+
+add-result : tie.Need-add-result
+add-result c = search needs
+
+returns : tie.Need-returns
+unfolding cycleWork
+returns c = refl
+
+pub cycle-places-spec : {M : Type 1} → statement M
+cycle-places-spec = tie.close (tie.spec mul-result mul-result-2 add-result returns)
