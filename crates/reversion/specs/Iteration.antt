@@ -1,33 +1,23 @@
 -- Newton's iteration: from a reverse series at order 2 to one at order n.
 --
---   startedAt p g     the coefficients of the reverse series at order 2: 0, the inverse of g's linear coefficient, zeros
---   started p n g     these as a list of n places
---   Iteration         what `newton` requires
---   Iterated          the contract of `newton`
---   Reached           before each turn: the first k places are a reverse series at order k
+--   Iteration     what `newton` requires
+--   Iterated      the contract of `newton`
+--   Reached       before each turn: the first k places are a reverse series at order k
+--   step-lent     the places that a step is lent
 --   reached-first reached-next reached-last   before the first turn, after one more, and after the last
 -- Assumes nothing.
-use Prim.Native.Nat.{ℕ, zero, suc, _+_, _*_, _-_, _%_, _^_, _<_, _≤_, min}
+use Prim.Native.Nat.{ℕ, suc, _*_, _-_, _<_, _≤_, min}
 use native.Mathlib.Omega.{arith}
 use mathlib.Core.List.{List, _++_}
-use mathlib.Core.Path.{_≡_, refl, sym, ap, _∙_}
-use lib.ListN.{length, getD, set, take, drop, length-append, length-drop, length-set}
+use mathlib.Core.Path.{_≡_, refl, ap, _∙_}
+use lib.ListN.{length, take, drop, length-append, length-drop}
 use lib.Seq.{length-take-le, take-all, take-at, take-take}
-use Rattle.definition.specs.Lists.{coefficient, tabulate}
 use Rattle.definition.specs.Refusal.{composeWork}
 use Rattle.definition.specs.Reversion.{Reversion}
 use Rattle.reversion.specs.Newton.{length-difference, newton-reversion, newtonStep}
 use Rattle.reversion.specs.Step.{Stepped}
 use Rattle.route.specs.Contract.{Lent, lent-places}
 use Rattle.route.specs.Within.{Within, within-refl, within-trans, within-wider}
-
-unfoldable pub startedAt : ℕ → List ℕ → ℕ → ℕ
-startedAt p g zero = 0
-startedAt p g (suc zero) = coefficient g 1 ^ (p - 2) % p
-startedAt p g (suc (suc k)) = 0
-
-unfoldable pub started : ℕ → ℕ → List ℕ → List ℕ
-started p n g = tabulate n (startedAt p g)
 
 pub record Iteration (p : ℕ) (g h w : List ℕ) : Type 0 where
   pub above : 1 < p

@@ -2,7 +2,11 @@
 --
 --   Newton      Newton's step on lists
 --   Step        Newton's step in the lent buffers
---   Iteration   the first series, and the loop over the steps
+--   Start       the series with which the iteration begins
+--   Iteration   the loop over the steps
+--   Answers     the call as a whole
 pub mod Newton
 pub mod Step
+pub mod Start
 pub mod Iteration
+pub mod Answers

@@ -2,9 +2,12 @@
 mod step;
 
 use field::Field;
+use refusal::Answer;
 ghost use mathlib.Core.Path.{_≡_};
 ghost use Prim.Native.Nat.{_<_};
-ghost use Rattle.reversion.specs.Iteration.{Iterated, Iteration, started};
+ghost use Rattle.definition.specs.Calls.{Reverse};
+ghost use Rattle.reversion.specs.Iteration.{Iterated, Iteration};
+ghost use Rattle.reversion.specs.Start.{started};
 ghost use lib.ListN.{length};
 
 // The reverse series below order 2: 0, the inverse of the linear coefficient of g, and zeros.
@@ -30,4 +33,19 @@ fn newton(p: u32, g: &[u32], h: &mut [u32], w: &mut [u32])
         k = number::smaller(2 * k - 1, n);
         step::step(p, g, &mut h[..k], w);
     }
+}
+
+// The reverse series of g: h without constant term such that g(h) is x modulo x^n, in `out`.
+pub fn reverse(p: u32, n: usize, g: &[u32], out: &mut [u32], work: &mut [u32]) -> Answer
+    ensures { λ r. ⌜ Reverse p n (now (g .entry)) (now (out .entry)) (now (out .exit)) (now (work .entry)) (now (work .exit))
+        (r .number) (r .weight) ⌝ }
+{
+    let number = refusal::reverse(p, n, g, out.len(), work.len());
+    if number != 0 {
+        return Answer { number: number, weight: 0 };
+    }
+    start(p, g, out);
+    newton(p, g, out, work);
+    buffer::clear(work, route::work_places(n, g.len()));
+    Answer { number: 0, weight: 0 }
 }

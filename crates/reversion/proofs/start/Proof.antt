@@ -4,6 +4,7 @@ use native.Mathlib.Omega.{arith}
 use Prim.Native.Nat.{ℕ, _+_, _*_, _-_, _<_, _≤_, _%_}
 use lib.ListN.{length, getD, take, drop, set}
 use mathlib.Core.Path.{_≡_, refl, sym, ap, _∙_}
+use Rattle.reversion.specs.Start.{started-put, started-zeros}
 use Rattle.reversion.proofs.start.Statement.{statement}
 use Rattle.reversion.proofs.start.Tie as tie
 use Rattle.reversion.proofs.start.Reads as reads
@@ -34,7 +35,10 @@ same-length c = search needs
 
 -- src/lib.rt:11:1
 returns : tie.Need-returns
-returns c = ?
+returns c =
+    let cleared = c .before .before .before .before .before in
+    let begin = cleared .before .before .before .before in
+    started-put (begin .args .p) (begin .args .g .now) (begin .args .h .now) (cleared .clear .ensures) (c .before .before .if1 .taken) (c .inverse .ensures ∙ rw (c .before .place .ensures))
 
 -- src/lib.rt:11:1
 same-length-2 : tie.Need-same-length-2
@@ -42,7 +46,10 @@ same-length-2 c = search needs
 
 -- src/lib.rt:11:1
 returns-2 : tie.Need-returns-2
-returns-2 c = ?
+returns-2 c =
+    let cleared = c .before .before .before in
+    let begin = cleared .before .before .before .before in
+    started-zeros (begin .args .p) (begin .args .g .now) (begin .args .h .now) (cleared .clear .ensures) (c .if1 .left)
 
 pub start-spec : {M : Type 1} → statement M
 start-spec =
