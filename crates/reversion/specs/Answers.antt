@@ -1,6 +1,7 @@
 -- The call as a whole.
 --
 --   reverse-refused    a call that is refused
+--   bounds             what holds of an accepted call
 --   reverse-iteration  an accepted call may begin the iteration
 --   reverse-accepted   an accepted call
 -- Assumes nothing.
@@ -45,7 +46,7 @@ module _ (p n : ℕ) (g out work : List ℕ) where
   }
 
   module _ (accepted : reverseRefusal p n g (length out) (length work) ≡ 0) where
-    bounds : ReverseBounds p n g (length out) (length work)
+    pub bounds : ReverseBounds p n g (length out) (length work)
     bounds = reverse-bounds p n g (length out) (length work) accepted
 
     pub reverse-iteration : {h : List ℕ} → h ≡ started p (length out) g → Iteration p g h work
@@ -64,10 +65,11 @@ module _ (p n : ℕ) (g out work : List ℕ) where
           begun = rw (size, e, bounds .output) (started-reversion (bounds .prime) n g (bounds .below) (bounds .reversible) (bounds .positive));
         }
 
-    pub reverse-accepted : {h out′ work″ work′ : List ℕ} → h ≡ started p (length out) g → Iterated p g out′ (length h) work work″
-        → work′ ≡ cleared (composeWork n (length g)) work″ → Reverse p n g out out′ work work′ 0 0
+    pub reverse-accepted : {h out′ work″ work′ : List ℕ} {places : ℕ} → h ≡ started p (length out) g
+        → Iterated p g out′ (length h) work work″ → places ≡ composeWork n (length g) → work′ ≡ cleared places work″
+        → Reverse p n g out out′ work work′ 0 0
     unfolding started kept
-    reverse-accepted {h} {out′} e iterated clear =
+    reverse-accepted {h} {out′} e iterated counted clear =
         let size : length h ≡ n = ap length e ∙ length-tabulate (length out) _ ∙ bounds .output in
         let reversion : Reversion p n g out′ = rw size at (iterated .reverses) in
         let positive = prime-positive (bounds .prime) in
@@ -80,5 +82,5 @@ module _ (p n : ℕ) (g out work : List ℕ) where
           symmetric = λ _. reversion-symmetric positive above n g out′ reversion;
           none = λ nine h r. omega arith;
           refused = λ refused. absurd (refused refl);
-          clears = clear ∙ cleared-within (rw size at (iterated .within));
+          clears = (rw counted at clear) ∙ cleared-within (rw size at (iterated .within));
         }
