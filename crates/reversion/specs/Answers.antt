@@ -1,7 +1,6 @@
 -- The call as a whole.
 --
 --   reverse-refused    a call that is refused
---   bounds             what holds of an accepted call
 --   reverse-iteration  an accepted call may begin the iteration
 --   reverse-accepted   an accepted call
 -- Assumes nothing.
@@ -21,7 +20,6 @@ use Rattle.definition.specs.Reversion.{Reversion}
 use Rattle.refusal.specs.Bounds.{ReverseBounds, reverse-bounds, reverse-nine}
 use Rattle.reversion.specs.Iteration.{Iterated, Iteration}
 use Rattle.reversion.specs.Start.{started, started-reversion}
-use Rattle.route.specs.Contract.{Lent}
 use Rattle.route.specs.Within.{cleared-within}
 
 kept-refused : (number : ℕ) → number ≢ 0 → (new old : List ℕ) → kept number new old ≡ old
@@ -46,41 +44,43 @@ module _ (p n : ℕ) (g out work : List ℕ) where
   }
 
   module _ (accepted : reverseRefusal p n g (length out) (length work) ≡ 0) where
-    pub bounds : ReverseBounds p n g (length out) (length work)
+    bounds : ReverseBounds p n g (length out) (length work)
     bounds = reverse-bounds p n g (length out) (length work) accepted
 
-    pub reverse-iteration : {h : List ℕ} → h ≡ started p (length out) g → Iteration p g h work
-    unfolding started
-    reverse-iteration {h} e =
-        let size : length h ≡ n = ap length e ∙ length-tabulate (length out) _ ∙ bounds .output in
-        record {
-          above = bounds .prime .above-one;
-          lent = record {
-            modulus = prime-positive (bounds .prime);
-            positive = rw size (bounds .positive);
-            order = rw size (bounds .order);
-            outer = bounds .inner;
-            enough = rw size (bounds .enough);
-          };
-          begun = rw (size, e, bounds .output) (started-reversion (bounds .prime) n g (bounds .below) (bounds .reversible) (bounds .positive));
-        }
+    module _ {h : List ℕ} (begun : h ≡ started p (length out) g) where
+      size : length h ≡ n
+      unfolding started
+      size = ap length begun ∙ length-tabulate (length out) _ ∙ bounds .output
 
-    pub reverse-accepted : {h out′ work″ work′ : List ℕ} {places : ℕ} → h ≡ started p (length out) g
-        → Iterated p g out′ (length h) work work″ → places ≡ composeWork n (length g) → work′ ≡ cleared places work″
-        → Reverse p n g out out′ work work′ 0 0
-    unfolding started kept
-    reverse-accepted {h} {out′} e iterated counted clear =
-        let size : length h ≡ n = ap length e ∙ length-tabulate (length out) _ ∙ bounds .output in
-        let reversion : Reversion p n g out′ = rw size at (iterated .reverses) in
-        let positive = prime-positive (bounds .prime) in
-        let above = bounds .prime .above-one in
-        record {
-          refusal = sym accepted;
-          weighs = refl;
-          reverses = λ _. reversion;
-          only = λ _ k r. reversion-unique positive above g k out′ r reversion;
-          symmetric = λ _. reversion-symmetric positive above n g out′ reversion;
-          none = λ nine h r. omega arith;
-          refused = λ refused. absurd (refused refl);
-          clears = (rw counted at clear) ∙ cleared-within (rw size at (iterated .within));
-        }
+      pub reverse-iteration : Iteration p g h work
+      reverse-iteration = record {
+        above = bounds .prime .above-one;
+        lent = record {
+          modulus = prime-positive (bounds .prime);
+          positive = rw size (bounds .positive);
+          order = rw size (bounds .order);
+          outer = bounds .inner;
+          enough = rw size (bounds .enough);
+        };
+        begun =
+            rw (size, begun, bounds .output)
+            (started-reversion (bounds .prime) n g (bounds .below) (bounds .reversible) (bounds .positive));
+      }
+
+      pub reverse-accepted : {out′ then work′ : List ℕ} {places : ℕ} → Iterated p g out′ (length h) work then
+          → places ≡ composeWork n (length g) → work′ ≡ cleared places then → Reverse p n g out out′ work work′ 0 0
+      unfolding kept
+      reverse-accepted {out′} iterated counted clear =
+          let reversion : Reversion p n g out′ = rw size at (iterated .reverses) in
+          let positive = prime-positive (bounds .prime) in
+          let above = bounds .prime .above-one in
+          record {
+            refusal = sym accepted;
+            weighs = refl;
+            reverses = λ _. reversion;
+            only = λ _ h r. reversion-unique positive above g h out′ r reversion;
+            symmetric = λ _. reversion-symmetric positive above n g out′ reversion;
+            none = λ nine h r. omega arith;
+            refused = λ refused. absurd (refused refl);
+            clears = (rw counted at clear) ∙ cleared-within (rw size at (iterated .within));
+          }

@@ -58,23 +58,31 @@ module _ {p : ℕ} (g h before : List ℕ) (o : Iteration p g h before) where
       size-j : length (take j v) ≡ j
       size-j = length-take-le j v (omega (arith, reached .size))
 
+      several : 1 < k
+      several = omega (arith, reached .many)
+
       pub step-lent : (1 < length (take j v)) × Lent p (length (take j v)) (length g) (length now)
       unfolding composeWork
-      step-lent = rw size-j (omega (arith, reached .many), record {
-        modulus = o .lent .modulus;
-        positive = omega (arith, reached .many);
-        order = omega (arith, o .lent .order);
-        outer = o .lent .outer;
-        enough = omega (arith, lent-places (o .lent), reached .within .size);
-      })
+      step-lent = rw size-j (
+        omega (arith, several),
+        record {
+          modulus = o .lent .modulus;
+          positive = omega (arith, several);
+          order = omega (arith, o .lent .order);
+          outer = o .lent .outer;
+          enough = omega (arith, lent-places (o .lent), reached .within .size);
+        },
+      )
 
       pub reached-next : {v′ now′ : List ℕ} → Stepped p g (take j v) v′ now now′ → Reached p g n (v′ ++ drop j v) before now′ j
       unfolding composeWork newtonStep
       reached-next {v′} {now′} stepped = record {
         few = omega arith;
-        many = omega (arith, reached .many);
+        many = omega (arith, several);
         size = rw (length-append, size-v′, length-drop) (omega (arith, reached .size));
-        reverses = rw (take-at v′ (drop j v) j size-v′, value) (newton-reversion (o .lent .modulus) (o .above) j g (take j v) {k = k - 1} (omega (arith, reached .many)) (omega (arith, reached .many)) known);
+        reverses =
+            rw (take-at v′ (drop j v) j size-v′, value)
+            (newton-reversion (o .lent .modulus) (o .above) j g (take j v) (omega (arith, several)) (omega (arith, several)) known);
         within = within-trans (reached .within) (within-wider (omega arith) (rw size-j (omega arith)) (stepped .within));
       }
         where
@@ -86,5 +94,5 @@ module _ {p : ℕ} (g h before : List ℕ) (o : Iteration p g h before) where
 
           known : Reversion p (suc (k - 1)) g (take (suc (k - 1)) (take j v))
           known =
-              let e : suc (k - 1) ≡ k = omega (arith, reached .many) in
-              rw (e, take-take k j v (omega (arith, reached .many))) (reached .reverses)
+              let e : suc (k - 1) ≡ k = omega (arith, several) in
+              rw (e, take-take k j v (omega (arith, several))) (reached .reverses)

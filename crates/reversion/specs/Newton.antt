@@ -4,31 +4,51 @@
 --   derivative p n h      the derivative of the polynomial h, a list of n places
 --   error p n g h         g(h) - x
 --   newtonStep p n g h    the step
---   length-difference length-newton   the step has n places
---   difference-below      and they are below p
---   series-difference series-derivative series-error series-newton   these lists as series over the residues
---   newton-constant       the step leaves no constant term
---   newton-reversion      the step takes a reverse series at order k to one at every order n ≤ 2k - 1
+--   length-difference     a difference has n places
+--   newton-reversion      the step takes a reverse series at order k + 1 to one at every order n from 1 to 2k + 1
 -- Assumes nothing.
-use Prim.Native.Nat.{ℕ, zero, suc, _+_, _-_, _*_, _%_, _<_, _≤_}
+use Prim.Native.Nat.{ℕ, suc, _+_, _*_, _%_, _<_, _≤_}
 use native.Mathlib.Nat.{mod-lt, mod-mod}
 use native.Mathlib.Numerals.{add-one}
 use native.Mathlib.Omega.{arith}
 use mathlib.Core.Bool.{false}
 use mathlib.Core.List.{List}
-use mathlib.Core.Path.{_≡_, refl, sym, ap, _∙_}
+use mathlib.Core.Path.{_≡_, _∙_}
 use lib.ListN.{length, take}
 use lib.Seq.{getD-take}
-use Rattle.algebra.specs.Agree.{Agree, agree-difference, agree-neg, agree-refl, agree-trans, agree-weaken, agree-⊞, agree-⊞-vanish, agree-⊠, vanish-multiple, vanish-neg}
+use Rattle.algebra.specs.Agree.{
+  Agree,
+  agree-difference,
+  agree-neg,
+  agree-refl,
+  agree-trans,
+  agree-weaken,
+  agree-⊞,
+  agree-⊞-vanish,
+  agree-⊠,
+  vanish-multiple,
+  vanish-neg,
+}
 use Rattle.algebra.specs.Bounded.{bounded}
-use Rattle.algebra.specs.Bridge.{identity-listed, cutProduct-listed, residue-series, series-listed, series-of, value}
-use Rattle.algebra.specs.Composition.{series-composed, series-constant}
+use Rattle.algebra.specs.Bridge.{identity-listed, cutProduct-listed, residue-series, series-listed, series-of}
+use Rattle.algebra.specs.Composition.{series-composed}
 use Rattle.algebra.specs.Derivative.{derivative-at}
 use Rattle.algebra.specs.Derivative as Derivative
 use Rattle.algebra.specs.Homomorphism.{coefficients-at}
 use Rattle.algebra.specs.Inverse.{reversion-reverse, reverse-reversion, zero-of}
 use Rattle.algebra.specs.Lists.{coefficient-tabulate, length-tabulate}
-use Rattle.algebra.specs.Residue.{Residue, natural-residue, reduction, residue, residue-+, residue-*, residue-equal, residue-negative, residues, residues-negation}
+use Rattle.algebra.specs.Residue.{
+  Residue,
+  natural-residue,
+  reduction,
+  residue,
+  residue-+,
+  residue-*,
+  residue-equal,
+  residue-negative,
+  residues,
+  residues-negation,
+}
 use Rattle.algebra.specs.Reversion.{Reverse, newton, newton-cut, reverse-agree}
 use Rattle.algebra.specs.Semiring.{Semiring}
 use Rattle.algebra.specs.Series.{Series, indeterminate, neg-at, series-negation, ⊞-at}
@@ -61,11 +81,13 @@ pub length-difference : (p n : ℕ) (a b : List ℕ) → length (difference p n 
 unfolding difference
 length-difference p n a b = length-tabulate n (differenceAt p a b)
 
-pub difference-below : {p : ℕ} (n : ℕ) (a b : List ℕ) → 0 < p → exceeds p (difference p n a b) ≡ false
+difference-below : {p : ℕ} (n : ℕ) (a b : List ℕ) → 0 < p → exceeds p (difference p n a b) ≡ false
 unfolding difference differenceAt
 difference-below {p} n a b l =
     bounded p (difference p n a b)
     (λ i h. rw (coefficient-tabulate n (differenceAt p a b) i (rw (length-difference p n a b) at h)) (mod-lt _ l))
+
+-- these lists as series over the residues
 
 module _ {p : ℕ} (l : 0 < p) where
   open Semiring (residue-series l) using (_⊕_ as _⊞_, _⊗_ as _⊠_)
@@ -77,7 +99,7 @@ module _ {p : ℕ} (l : 0 < p) where
   residue-remainder : (a : ℕ) → residue l (a % p) ≡ residue l a
   residue-remainder a = residue-equal l (a % p) a .1 (mod-mod a p)
 
-  pub series-difference : (n : ℕ) (a b : List ℕ)
+  series-difference : (n : ℕ) (a b : List ℕ)
       → Agree n (series-of l (difference p n a b)) (series-of l a ⊞ opposite (series-of l b))
   unfolding difference differenceAt
   series-difference n a b k h =
@@ -93,7 +115,7 @@ module _ {p : ℕ} (l : 0 < p) where
         coefficients-at (reduction l),
       )
 
-  pub series-derivative : (n : ℕ) (h : List ℕ)
+  series-derivative : (n : ℕ) (h : List ℕ)
       → Agree n (series-of l (derivative p n h)) (Derivative.derivative (residues l) (series-of l h))
   unfolding derivative derivativeAt
   series-derivative n h k b =
@@ -109,7 +131,7 @@ module _ {p : ℕ} (l : 0 < p) where
       )
 
   module _ (above : 1 < p) (n : ℕ) (g h : List ℕ) where
-    pub series-error : Agree n (series-of l (error p n g h)) (series-of l (composed p n g h) ⊞ opposite (indeterminate (residues l)))
+    series-error : Agree n (series-of l (error p n g h)) (series-of l (composed p n g h) ⊞ opposite (indeterminate (residues l)))
     unfolding error
     series-error =
         agree-trans (series-difference n (composed p n g h) (identity n))
@@ -117,7 +139,7 @@ module _ {p : ℕ} (l : 0 < p) where
         (agree-neg (residues l) (residues-negation l)
         (rw (identity-listed l n above) (series-listed l n (indeterminate (residues l))))))
 
-    pub series-newton : Agree n (series-of l (newtonStep p n g h))
+    series-newton : Agree n (series-of l (newtonStep p n g h))
         (newton (residues l) (residues-negation l) (series-of l h) (series-of l (composed p n g h)))
     unfolding newtonStep
     series-newton =
@@ -129,7 +151,8 @@ module _ {p : ℕ} (l : 0 < p) where
         (agree-⊠ (residues l) series-error (series-derivative n h)))))
 
     -- of h only the first k + 1 places are known to be those of a reverse series
-    pub newton-reversion : {k : ℕ} → 0 < n → n ≤ k + suc k → Reversion p (suc k) g (take (suc k) h) → Reversion p n g (newtonStep p n g h)
+    pub newton-reversion : {k : ℕ} → 0 < n → n ≤ k + suc k → Reversion p (suc k) g (take (suc k) h)
+        → Reversion p n g (newtonStep p n g h)
     unfolding newtonStep coefficient
     newton-reversion {k} positive far r =
         reverse-reversion l above g (newtonStep p n g h) (length-difference p n h _) below-p

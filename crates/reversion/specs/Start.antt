@@ -6,7 +6,7 @@
 --   started-put         a longer one, cleared, with the inverse written
 --   started-reversion   the list is a reverse series at order 2, or at order n where that is less
 -- Assumes nothing.
-use Prim.Native.Nat.{ℕ, zero, suc, _*_, _-_, _%_, _^_, _<_, _≤_, min}
+use Prim.Native.Nat.{ℕ, zero, suc, _-_, _%_, _^_, _<_, _≤_, min}
 use native.Mathlib.Nat.{mod-eq-of-lt, mod-lt, mul-comm}
 use native.Mathlib.Omega.{arith}
 use borrow.Author.Tests.{eqb-false, eqb-true, lt-ltb, not-false}
@@ -16,7 +16,7 @@ use lib.Seq.{drop-length, getD-set-other, getD-set-same, getD-take, length-take-
 use mathlib.Core.Bool.{false, not, _&&_}
 use mathlib.Core.List.{List, append-nil}
 use mathlib.Core.Logic.{_≢_}
-use mathlib.Core.Path.{_≡_, refl, sym, ap, _∙_}
+use mathlib.Core.Path.{_≡_, sym, _∙_}
 use Rattle.algebra.specs.Bounded.{below, bounded}
 use Rattle.algebra.specs.Bridge.{series-of}
 use Rattle.algebra.specs.Composition.{series-constant}
@@ -27,7 +27,6 @@ use Rattle.algebra.specs.Lists.{coefficient-tabulate, length-tabulate, table-of
 use Rattle.algebra.specs.Prime.{prime-positive}
 use Rattle.algebra.specs.Residue.{reduction, residue-1, residue-*, residue-equal, residues}
 use Rattle.algebra.specs.Reversion.{Reverse, reverse-below-1, reverse-below-2}
-use Rattle.algebra.specs.Semiring.{⊗-comm}
 use Rattle.definition.specs.Answer.{cleared}
 use Rattle.definition.specs.Lists.{coefficient, tabulate}
 use Rattle.definition.specs.Prime.{Prime}
@@ -90,7 +89,9 @@ reversible-constant n g e = eqb-true (coefficient g 0) 0 (not-false _ (either-fa
 
 reversible-linear : (n : ℕ) (g : List ℕ) → irreversible n g ≡ false → 1 < n → coefficient g 1 ≢ 0
 unfolding irreversible
-reversible-linear n g e several = eqb-false (coefficient g 1) 0 (rw (lt-ltb 1 n several) at (either-false (not (eqb (coefficient g 0) 0)) (ltb 1 n && eqb (coefficient g 1) 0) e .1))
+reversible-linear n g e several =
+    let neither = either-false (not (eqb (coefficient g 0) 0)) (ltb 1 n && eqb (coefficient g 1) 0) e in
+    eqb-false (coefficient g 1) 0 (rw (lt-ltb 1 n several) at (neither .1))
 
 module _ {p : ℕ} (P : Prime p) (n : ℕ) (g : List ℕ) (small : exceeds p g ≡ false) (reversible : irreversible n g ≡ false) where
   l : 0 < p
@@ -123,17 +124,27 @@ module _ {p : ℕ} (P : Prime p) (n : ℕ) (g : List ℕ) (small : exceeds p g �
         mul-comm,
         ← residue-1 l,
       )
-      (residue-equal l _ 1 .1 (inverse P (coefficient g 1) (λ e. z (sym (mod-eq-of-lt (below l g small 1)) ∙ e)) ∙ sym (mod-eq-of-lt (P .above-one))))
+      (residue-equal l _ 1 .1
+      (inverse P (coefficient g 1) (λ e. z (sym (mod-eq-of-lt (below l g small 1)) ∙ e)) ∙ sym (mod-eq-of-lt (P .above-one))))
 
   at-order : (k : ℕ) → 0 < k → k ≤ 2 → (1 < k → coefficient g 1 ≢ 0) → Reversion p k g (started p k g)
   unfolding started
   at-order k b few linear =
-      reverse-reversion l (P .above-one) g (started p k g) (length-tabulate k _) (started-below k) (started-constant k b) (reverse k b few linear)
+      reverse-reversion l (P .above-one) g (started p k g) (length-tabulate k _) (started-below k) (started-constant k b)
+      (reverse k b few linear)
     where
-      reverse : (k : ℕ) → 0 < k → k ≤ 2 → (1 < k → coefficient g 1 ≢ 0) → Reverse (residues l) k (series-of l g) (series-of l (started p k g))
+      g-0 : series-of l g 0 ≡ residues l .𝟘
+      g-0 = series-constant l g (reversible-constant n g reversible)
+
+      h-0 : (k : ℕ) → 0 < k → series-of l (started p k g) 0 ≡ residues l .𝟘
+      h-0 k b = series-constant l (started p k g) (started-constant k b)
+
+      reverse : (k : ℕ) → 0 < k → k ≤ 2 → (1 < k → coefficient g 1 ≢ 0)
+          → Reverse (residues l) k (series-of l g) (series-of l (started p k g))
       reverse zero b few linear = absurd (omega arith)
-      reverse (suc zero) b few linear = reverse-below-1 (residues l) (series-constant l g (reversible-constant n g reversible)) (series-constant l (started p 1 g) (started-constant 1 b))
-      reverse (suc (suc zero)) b few linear = reverse-below-2 (residues l) (series-constant l g (reversible-constant n g reversible)) (series-constant l (started p 2 g) (started-constant 2 b)) (started-linear 2 (omega arith) (linear (omega arith)))
+      reverse (suc zero) b few linear = reverse-below-1 (residues l) g-0 (h-0 1 b)
+      reverse (suc (suc zero)) b few linear =
+          reverse-below-2 (residues l) g-0 (h-0 2 b) (started-linear 2 (omega arith) (linear (omega arith)))
       reverse (suc (suc (suc k))) b few linear = absurd (omega arith)
 
   pub started-reversion : 0 < n → Reversion p (min 2 n) g (take (min 2 n) (started p n g))

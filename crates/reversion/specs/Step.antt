@@ -2,8 +2,9 @@
 --
 --   ErrorPut      the contract of `put_error`
 --   Stepped       the contract of `step`
---   error-put     one place of g(h) changed is g(h) - x
---   subtract-next subtract-last   the places of h in turn
+--   error-put     g(h) with its place 1 one less is g(h) - x
+--   rule          the places of a difference, with those of w from t on
+--   subtract-next subtract-last   one place more of it is written, and the last
 --   step-operands the places of the product of a step
 --   stepped       the derivative, the product and the difference after g(h) - x
 -- Assumes nothing.
@@ -12,19 +13,19 @@ use native.Mathlib.Nat.{add-zero, le-refl, mod-mod, mod-self, sub-zero, zero-add
 use native.Mathlib.Omega.{arith}
 use mathlib.Core.List.{List, [], _∷_}
 use mathlib.Core.Logic.{inl}
-use mathlib.Core.Path.{_≡_, refl, sym, ap, _∙_}
-use lib.ListN.{length, getD, set, take, length-set}
+use mathlib.Core.Path.{_≡_, refl, ap, _∙_}
+use lib.ListN.{length, getD, set, length-set}
 use lib.Seq.{sets, getD-set-other, getD-set-same, getD-take, take-set-lt}
 use Rattle.algebra.specs.Lists.{coefficient-tabulate, length-tabulate, table-of}
+use Rattle.buffer.specs.Written.{getD-sets-after, sets-whole}
 use Rattle.definition.specs.KinoshitaLi.{negative}
 use Rattle.definition.specs.Lists.{coefficient, tabulate}
 use Rattle.definition.specs.Refusal.{composeWork}
 use Rattle.definition.specs.Reversion.{identity, identityAt}
-use Rattle.definition.specs.Substitution.{composed, composedAt, constant, cutProduct, cutProductAt}
-use Rattle.buffer.specs.Written.{getD-sets-after, sets-whole}
+use Rattle.definition.specs.Substitution.{composed, composedAt, constant, cutProduct}
 use Rattle.product.specs.Segments.{Apart, segment, coefficient-segment, segment-kept}
-use Rattle.reversion.specs.Newton.{derivative, derivativeAt, difference, differenceAt, error, newtonStep}
 use Rattle.product.specs.Single.{Multiplied, Operands}
+use Rattle.reversion.specs.Newton.{derivative, difference, differenceAt, error, newtonStep}
 use Rattle.route.specs.Contract.{Lent, Route, lent-places}
 use Rattle.route.specs.Filling.{Filling, filling-last, filling-next}
 use Rattle.route.specs.Within.{Within, segment-sets, within-sets, within-trans}
@@ -43,7 +44,8 @@ negative-0 p = rw (zero-mod, sub-zero) (mod-self p)
 
 -- where x has no coefficient, g(h) - x has that of g(h); at place 1 it is one less
 module _ (p n : ℕ) (g h : List ℕ) where
-  kept-place : (i : ℕ) → i < n → identityAt i ≡ 0 → coefficient (composed p n g h) i ≡ differenceAt p (composed p n g h) (identity n) i
+  kept-place : (i : ℕ) → i < n → identityAt i ≡ 0
+      → coefficient (composed p n g h) i ≡ differenceAt p (composed p n g h) (identity n) i
   unfolding composed composedAt identity differenceAt
   kept-place i b e =
       rw (coefficient-tabulate n (composedAt p g h) i b, coefficient-tabulate n identityAt i b, e, negative-0, add-zero, mod-mod)
@@ -77,7 +79,7 @@ module _ {p : ℕ} (g h : List ℕ) {before then : List ℕ} where
     within = within-trans (route .within) (within-sets then 1 (v ∷ []) (omega arith) (omega arith));
   }
 
--- the places of h in turn
+-- a difference, place by place
 module _ (p t : ℕ) (h w : List ℕ) where
   abbrev pub rule : ℕ → ℕ
   rule = differenceAt p h (segment w t (length h))
@@ -131,7 +133,9 @@ module _ {p : ℕ} (g h : List ℕ) {before w₁ w₂ w₃ h′ : List ℕ} {res
       size = within-w₂ .size ∙ put .within .size
 
       within-w₃ : Within 0 (128 * n + 8 * length g) w₂ w₃
-      within-w₃ = rw (multiplied .written) (within-sets w₂ (2 * n) (cutProduct p n (segment w₂ 0 n) (segment w₂ n n)) (omega arith) (rw length-tabulate (omega arith)))
+      within-w₃ =
+          rw (multiplied .written)
+          (within-sets w₂ (2 * n) (cutProduct p n (segment w₂ 0 n) (segment w₂ n n)) (omega arith) (rw length-tabulate (omega arith)))
 
       apart : Apart w₁ 0 n n n
       apart = record {
@@ -144,9 +148,10 @@ module _ {p : ℕ} (g h : List ℕ) {before w₁ w₂ w₃ h′ : List ℕ} {res
       left = rw derived (segment-kept apart (derivative p n h) (rw length-tabulate (le-refl n)) ∙ put .value)
 
       right : segment w₂ n n ≡ derivative p n h
-      right = rw derived (segment-sets w₁ n (derivative p n h) n (length-tabulate n _) (omega (arith, put .within .size, lent-places lent)))
+      right = rw derived (segment-sets w₁ n (derivative p n h) n (length-tabulate n _) (apart .target))
 
       product : segment w₃ (2 * n) n ≡ cutProduct p n (error p n g h) (derivative p n h)
       product =
           rw (multiplied .written, left, right)
-          (segment-sets w₂ (2 * n) (cutProduct p n (error p n g h) (derivative p n h)) n (length-tabulate n _) (omega (arith, size, lent-places lent)))
+          (segment-sets w₂ (2 * n) (cutProduct p n (error p n g h) (derivative p n h)) n (length-tabulate n _)
+          (step-operands {w = w₂} lent size .left .target))

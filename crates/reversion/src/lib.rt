@@ -42,10 +42,16 @@ pub fn reverse(p: u32, n: usize, g: &[u32], out: &mut [u32], work: &mut [u32]) -
 {
     let number = refusal::reverse(p, n, g, out.len(), work.len());
     if number != 0 {
-        return Answer { number: number, weight: 0 };
+        return Answer {
+            number: number,
+            weight: 0,
+        };
     }
     start(p, g, out);
     newton(p, g, out, work);
     buffer::clear(work, route::work_places(n, g.len()));
-    Answer { number: 0, weight: 0 }
+    Answer {
+        number: 0,
+        weight: 0,
+    }
 }

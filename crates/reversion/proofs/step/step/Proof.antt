@@ -1,36 +1,24 @@
 -- `reversion::step::step` meets its contract. Assumes nothing.
 use borrow.Author.Needs.{needs}
 use native.Mathlib.Omega.{arith}
-use Prim.Native.Nat.{ℕ, _+_, _*_, _-_, _<_, _≤_, _%_}
-use lib.ListN.{length, getD, take, drop, set}
-use mathlib.Core.Path.{_≡_, refl, sym, ap, _∙_}
+use mathlib.Core.Path.{_∙_}
 use Rattle.reversion.specs.Step.{step-operands, stepped}
 use Rattle.route.specs.Contract.{lent-places}
 use Rattle.reversion.proofs.step.step.Statement.{statement}
 use Rattle.reversion.proofs.step.step.Tie as tie
-use Rattle.reversion.proofs.step.step.Reads as reads
-use Rattle.reversion.proofs.step.step.Lts as lts
-use Rattle.product.proofs.multiply.Reads as multiply-reads
-use Rattle.reversion.proofs.step.put_derivative.Reads as put-derivative-reads
-use Rattle.reversion.proofs.step.put_error.Reads as put-error-reads
-use Rattle.reversion.proofs.step.subtract.Reads as subtract-reads
 
--- src/step.rt:52:5
 put-error-requires : tie.Need-put-error-requires
 put-error-requires c κs = search needs
 
--- src/step.rt:53:5
 put-derivative-requires : tie.Need-put-derivative-requires
 put-derivative-requires c κs =
     let called = c .before .before .before .before in
     let lent = called .before .before .before .before .before .before .pre .1 in
     (lent .modulus, lent .order, omega (arith, lent-places lent, called .put-error .ensures .within .size))
 
--- src/step.rt:54:38
 mul-multiply : tie.Need-mul-multiply
 mul-multiply c = search needs
 
--- src/step.rt:54:5
 multiply-requires : tie.Need-multiply-requires
 multiply-requires c κs =
     let derived = c .before .before .before in
@@ -38,31 +26,31 @@ multiply-requires c κs =
     let lent = called .before .before .before .before .before .before .pre .1 in
     step-operands lent (derived .put-derivative .kept .1 .1 .0 ∙ called .put-error .ensures .within .size)
 
--- src/step.rt:55:23
 mul-subtract : tie.Need-mul-subtract
 mul-subtract c = search needs
 
--- src/step.rt:55:5
 subtract-requires : tie.Need-subtract-requires
 subtract-requires c κs =
     let multiplied = c .before .before .before .before in
     let derived = multiplied .before .before .before .before in
     let called = derived .before .before .before .before .before in
-    let lent = called .before .before .before .before .before .before .pre .1 in
-    (
+    let lent = called .before .before .before .before .before .before .pre .1 in (
       lent .modulus,
-      omega (arith, lent-places lent, multiplied .multiply .kept .1 .1 .0, derived .put-derivative .kept .1 .1 .0, called .put-error .ensures .within .size),
+      omega (
+        arith,
+        lent-places lent,
+        multiplied .multiply .kept .1 .1 .0,
+        derived .put-derivative .kept .1 .1 .0,
+        called .put-error .ensures .within .size,
+      ),
     )
 
--- src/step.rt:47:1
 same-length : tie.Need-same-length
 same-length c = search needs
 
--- src/step.rt:47:1
 same-length-2 : tie.Need-same-length-2
 same-length-2 c = search needs
 
--- src/step.rt:47:1
 returns : tie.Need-returns
 returns c =
     let subtracted = c .before .before in

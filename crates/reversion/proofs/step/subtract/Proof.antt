@@ -1,18 +1,14 @@
 -- `reversion::step::subtract` meets its contract: after k turns the first k places are written. Assumes nothing.
 use borrow.Author.Needs.{needs}
 use native.Mathlib.Omega.{arith}
-use Prim.Native.Nat.{ℕ, _+_, _*_, _-_, _<_, _≤_, _%_}
-use lib.ListN.{length, getD, take, drop, set}
-use mathlib.Core.Path.{_≡_, refl, sym, ap, _∙_}
+use Prim.Native.Nat.{_-_}
+use lib.ListN.{length}
 use Rattle.product.specs.Segments.{segment}
 use Rattle.reversion.specs.Newton.{differenceAt}
 use Rattle.reversion.specs.Step.{subtract-last, subtract-next}
 use Rattle.route.specs.Filling.{Filling, filling-first}
 use Rattle.reversion.proofs.step.subtract.Statement.{statement}
 use Rattle.reversion.proofs.step.subtract.Tie as tie
-use Rattle.reversion.proofs.step.subtract.Reads as reads
-use Rattle.reversion.proofs.step.subtract.Lts as lts
-use Rattle.field.proofs.Field.difference.Reads as difference-reads
 
 abbrev Inv-loop : tie.InvT-loop
 Inv-loop p h₀ w t k₀ h k = Filling (differenceAt p h₀ (segment w t (length h₀))) 0 (length h₀) h₀ h k
@@ -20,51 +16,39 @@ Inv-loop p h₀ w t k₀ h k = Filling (differenceAt p h₀ (segment w t (length
 abbrev μ-loop : tie.MeasureT-loop
 μ-loop p h₀ w t k₀ h k = length h₀ - k
 
--- src/step.rt:40:5
 loop-holds : tie.Need-loop-holds Inv-loop μ-loop
 loop-holds c = filling-first _ _ _ _
 
--- src/step.rt:41:48
 mul-difference : tie.Need-mul-difference Inv-loop μ-loop
 mul-difference c = search needs
 
--- src/step.rt:41:48
 slice-read-difference : tie.Need-slice-read-difference Inv-loop μ-loop
 slice-read-difference c = search needs
 
--- src/step.rt:41:56
 add-difference : tie.Need-add-difference Inv-loop μ-loop
 add-difference c = search needs
 
--- src/step.rt:41:54
 mul-difference-2 : tie.Need-mul-difference-2 Inv-loop μ-loop
 mul-difference-2 c = search needs
 
--- src/step.rt:41:54
 shared-slice-read-difference : tie.Need-shared-slice-read-difference Inv-loop μ-loop
 shared-slice-read-difference c = search needs
 
--- src/step.rt:41:16
 difference-requires : tie.Need-difference-requires Inv-loop μ-loop
 difference-requires c κs = search needs
 
--- src/step.rt:41:9
 mul-h : tie.Need-mul-h Inv-loop μ-loop
 mul-h c = search needs
 
--- src/step.rt:41:9
 slice-write-h : tie.Need-slice-write-h Inv-loop μ-loop
 slice-write-h c = search needs
 
--- src/step.rt:42:9
 add-k : tie.Need-add-k Inv-loop μ-loop
 add-k c = search needs
 
--- src/step.rt:40:5
 loop-less : tie.Need-loop-less Inv-loop μ-loop
 loop-less c = search needs
 
--- src/step.rt:40:5
 loop-again : tie.Need-loop-again Inv-loop μ-loop
 loop-again c =
     let at = c .before .before .before .before in
@@ -72,11 +56,9 @@ loop-again c =
     subtract-next (begin .args .p) (begin .args .t) (begin .args .h .now) (begin .args .w .now) (at .loop .inv)
     (omega (arith, at .loop .inv .size)) (c .difference .ensures)
 
--- src/step.rt:34:1
 same-length : tie.Need-same-length Inv-loop μ-loop
 same-length c = search needs
 
--- src/step.rt:34:1
 returns : tie.Need-returns Inv-loop μ-loop
 returns c =
     let at = c .before in
