@@ -28,7 +28,7 @@ use Rattle.ranged.specs.Kept.{PowerOperands, Powers}
 use Rattle.ranged.specs.Spans.{span, span-whole}
 use Rattle.ranged.specs.Weights.{few-products, few-rounds, ranged-weight}
 
-module _ {p n b levels places work : ℕ} (f : List ℕ) (lent : Lent p n (length f) places work) (bounds : (0 < b) × (b ≤ 64))
+module _ {p n b levels work : ℕ} (f : List ℕ) (lent : Lent p n (length f) work) (bounds : (0 < b) × (b ≤ 64))
     (number : levels ≡ halvings (ceilDiv (length f) b)) where
   pub whole-levels : levels ≤ 12
   whole-levels = rw number (few-rounds b (length f) (bounds .0) (lent .outer))

@@ -1,128 +1,75 @@
-// The four routes as C functions, for the comparison tests and the benchmark. Each tests what its route requires, and turns a call down
-// that it does not take: it gives back a number that is no weight, and changes no buffer.
-ghost use lib.ListN.{length};
-ghost use Rattle.definition.specs.Prime.{Prime};
-ghost use Rattle.definition.specs.Ranged.{blockLength};
-ghost use Rattle.definition.specs.Weight.{bernsteinWeight, hornerWeight, kinoshitaLiWeight, rangedWeight};
-ghost use Rattle.route.specs.Contract.{Lent};
-ghost use Rattle.trial.specs.Tried.{Decides, Tried};
+// The calls as C functions, for the comparison tests and the benchmark. A chain record passes as its three numbers.
+use chain::Chain;
+use refusal::Answer;
+ghost use Rattle.definition.specs.Calls.{Compose, Cycle, Open, Reverse};
 
-// What a call gives back that is turned down: 2^64 - 1.
-const TURNED_DOWN: u64 = 18446744073709551615;
-
-// Whether a route takes the modulus, the order and the counts of the lists.
-fn takes(p: u32, n: usize, m: usize, places: usize, work: usize) -> bool
-    ensures { λ r. ⌜ Decides (Lent p n m places work) r ⌝ }
-{
-    if p == 0 {
-        return false;
-    }
-    if n == 0 {
-        return false;
-    }
-    if n > 4096 {
-        return false;
-    }
-    if m > 4096 {
-        return false;
-    }
-    if places != n {
-        return false;
-    }
-    route::work_places(n, m) <= work
+// A chain record with the answer of the call that left it.
+#[repr(C)]
+pub struct ChainAnswer {
+    pub modulus: u32,
+    pub order: usize,
+    pub done: u32,
+    pub number: u32,
+    pub weight: u64,
 }
 
-// The same, and whether the modulus is prime.
-fn takes_prime(p: u32, n: usize, m: usize, places: usize, work: usize) -> bool
-    ensures { λ r. ⌜ Decides (Lent p n m places work × Prime p) r ⌝ }
-{
-    if takes(p, n, m, places, work) {
-        field::is_prime(p)
-    } else {
-        false
-    }
-}
-
-// Route 1.
+// The call compose.
 #[no_mangle]
-pub extern "C" fn trial_horner(
+pub extern "C" fn trial_compose(
+    route: u32,
     p: u32,
     n: usize,
     f: &[u32],
     g: &[u32],
     out: &mut [u32],
-    w: &mut [u32],
-) -> u64
-    ensures { λ r. ⌜ Tried (Lent p n (length (now (f .entry))) (length (now (out .entry))) (length (now (w .entry)))) p n
-        (now (f .entry)) (now (g .entry)) (hornerWeight n (length (now (f .entry))))
-        (now (out .entry)) (now (out .exit)) (now (w .entry)) (now (w .exit)) r ⌝ }
+    work: &mut [u32],
+) -> Answer
+    ensures { λ r. ⌜ Compose route p n (now (f .entry)) (now (g .entry)) (now (out .entry)) (now (out .exit))
+        (now (work .entry)) (now (work .exit)) (r .number) (r .weight) ⌝ }
 {
-    if takes(p, n, f.len(), out.len(), w.len()) {
-        horner::horner(p, n, f, g, out, w)
-    } else {
-        TURNED_DOWN
+    compose::compose(route, p, n, f, g, out, work)
+}
+
+// Opening a chain.
+#[no_mangle]
+pub extern "C" fn trial_open(p: u32, n: usize, running: &mut [u32]) -> ChainAnswer
+    ensures { λ r. ⌜ Open p n (now (running .entry)) (now (running .exit)) (r .number) (r .weight) (r .modulus) (r .order) (r .done) ⌝ }
+{
+    let next = Chain::open(p, n, running);
+    ChainAnswer {
+        modulus: next.chain.modulus,
+        order: next.chain.order,
+        done: next.chain.done,
+        number: next.answer.number,
+        weight: next.answer.weight,
     }
 }
 
-// Route 2.
+// A cycle of a chain.
 #[no_mangle]
-pub extern "C" fn trial_ranged(
+pub extern "C" fn trial_cycle(
     p: u32,
     n: usize,
-    f: &[u32],
-    g: &[u32],
-    out: &mut [u32],
-    w: &mut [u32],
-) -> u64
-    ensures { λ r. ⌜ Tried (Lent p n (length (now (f .entry))) (length (now (out .entry))) (length (now (w .entry)))) p n
-        (now (f .entry)) (now (g .entry)) (rangedWeight blockLength n (length (now (f .entry))))
-        (now (out .entry)) (now (out .exit)) (now (w .entry)) (now (w .exit)) r ⌝ }
+    done: u32,
+    route: u32,
+    list: &[u32],
+    running: &mut [u32],
+    work: &mut [u32],
+) -> ChainAnswer
+    ensures { λ r. ⌜ Cycle route p n done (now (list .entry)) (now (running .entry)) (now (running .exit))
+        (now (work .entry)) (now (work .exit)) (r .number) (r .weight) (r .modulus) (r .order) (r .done) ⌝ }
 {
-    if takes(p, n, f.len(), out.len(), w.len()) {
-        ranged::ranged(p, n, f, g, out, w)
-    } else {
-        TURNED_DOWN
-    }
-}
-
-// Route 3.
-#[no_mangle]
-pub extern "C" fn trial_bernstein(
-    p: u32,
-    n: usize,
-    f: &[u32],
-    g: &[u32],
-    out: &mut [u32],
-    w: &mut [u32],
-) -> u64
-    ensures { λ r. ⌜ Tried (Lent p n (length (now (f .entry))) (length (now (out .entry))) (length (now (w .entry))) × Prime p) p n
-        (now (f .entry)) (now (g .entry)) (bernsteinWeight p n (length (now (f .entry))))
-        (now (out .entry)) (now (out .exit)) (now (w .entry)) (now (w .exit)) r ⌝ }
-{
-    if takes_prime(p, n, f.len(), out.len(), w.len()) {
-        bernstein::bernstein(p, n, f, g, out, w)
-    } else {
-        TURNED_DOWN
-    }
-}
-
-// Route 4.
-#[no_mangle]
-pub extern "C" fn trial_kinoshita_li(
-    p: u32,
-    n: usize,
-    f: &[u32],
-    g: &[u32],
-    out: &mut [u32],
-    w: &mut [u32],
-) -> u64
-    ensures { λ r. ⌜ Tried (Lent p n (length (now (f .entry))) (length (now (out .entry))) (length (now (w .entry)))) p n
-        (now (f .entry)) (now (g .entry)) (kinoshitaLiWeight n (length (now (f .entry))))
-        (now (out .entry)) (now (out .exit)) (now (w .entry)) (now (w .exit)) r ⌝ }
-{
-    if takes(p, n, f.len(), out.len(), w.len()) {
-        kinoshita_li::kinoshita_li(p, n, f, g, out, w)
-    } else {
-        TURNED_DOWN
+    let chain = Chain {
+        modulus: p,
+        order: n,
+        done: done,
+    };
+    let next = chain.cycle(route, list, running, work);
+    ChainAnswer {
+        modulus: next.chain.modulus,
+        order: next.chain.order,
+        done: next.chain.done,
+        number: next.answer.number,
+        weight: next.answer.weight,
     }
 }

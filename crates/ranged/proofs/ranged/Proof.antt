@@ -1,10 +1,10 @@
 -- `ranged::ranged` meets its contract: the powers, then the span of all blocks. Assumes nothing.
 use borrow.Author.Needs.{needs}
 use Rattle.definition.specs.Ranged.{blockLength}
-use Rattle.route.specs.Contract.{lent-places, put-composed, put-within, route-finished}
+use Rattle.route.specs.Contract.{lent-places, put-composed, put-within, route-moved}
 use Rattle.ranged.specs.Whole.{whole-levels, whole-places, whole-powers, whole-small, whole-span, whole-value, whole-weight, whole-within}
 use native.Mathlib.Omega.{arith}
-use Prim.Native.Nat.{_<_, _≤_}
+use Prim.Native.Nat.{_+_, _*_, _<_, _≤_}
 use lib.ListN.{length}
 use mathlib.Core.Path.{_∙_}
 use Rattle.ranged.proofs.ranged.Statement.{statement}
@@ -13,32 +13,29 @@ use Rattle.ranged.proofs.ranged.Tie as tie
 bounds : (0 < 4) × (4 ≤ 64)
 bounds = (omega arith, omega arith)
 
-work-places-requires : tie.Need-work-places-requires
-work-places-requires c κs = search needs
-
 rounds-requires : tie.Need-rounds-requires
 rounds-requires c κs = search needs
 
 add-t : tie.Need-add-t
 add-t c =
-    let begin = c .before .before .before .before .before .before in
+    let begin = c .before .before .before .before in
     record { fits = omega (arith, whole-levels (begin .args .f .now) (begin .pre) bounds (c .rounds .ensures)) }
 
 mul-t : tie.Need-mul-t
 mul-t c =
-    let begin = c .before .before .before .before .before .before in
+    let begin = c .before .before .before .before in
     record { fits = omega (arith, whole-places (begin .args .f .now) (begin .pre) bounds (c .rounds .ensures) .0, begin .pre .order) }
 
 put-requires : tie.Need-put-requires
 put-requires c κs =
-    let begin = c .before .before .before .before .before .before .before in
+    let begin = c .before .before .before .before .before in
     omega (arith, lent-places (begin .pre))
 
 powers-requires : tie.Need-powers-requires
 powers-requires c κs =
     let put = c .before .before .before in
     let rounds = put .before .before in
-    let begin = rounds .before .before .before .before .before .before in
+    let begin = rounds .before .before .before .before in
     whole-powers (begin .args .f .now) (begin .pre) bounds (rounds .rounds .ensures) (put .put .kept .1 .1 .0)
 
 compose-span-requires : tie.Need-compose-span-requires
@@ -47,7 +44,7 @@ compose-span-requires c κs =
     let powers = c .before .before .before in
     let put = powers .before .before .before .before in
     let rounds = put .before .before in
-    let begin = rounds .before .before .before .before .before .before in
+    let begin = rounds .before .before .before .before in
     whole-span (begin .args .f .now) (begin .pre) bounds (rounds .rounds .ensures) (powers .powers .ensures) (put .put .kept .1 .1 .0)
 
 add-sum : tie.Need-add-sum
@@ -56,65 +53,51 @@ add-sum c =
     let span = c .before .before in
     let powers = span .before .before .before .before in
     let rounds = powers .before .before .before .before .before .before in
-    let begin = rounds .before .before .before .before .before .before in
+    let begin = rounds .before .before .before .before in
     record { fits = omega (arith, whole-small (begin .args .f .now) (begin .pre) bounds (rounds .rounds .ensures) (powers .powers .ensures) (span .compose-span .ensures)) }
 
-finish-requires : tie.Need-finish-requires
+move-down-requires : tie.Need-move-down-requires
 unfolding blockLength
-finish-requires c κs =
-    let span = c .before .before .before .before in
+move-down-requires c κs =
+    let span = c .before .before .before in
     let powers = span .before .before .before .before in
     let put = powers .before .before .before .before in
     let rounds = put .before .before in
-    let places = rounds .before in
-    let begin = places .before .before .before .before .before in
-    let size = whole-within (begin .args .f .now) (begin .pre) bounds (rounds .rounds .ensures) (powers .powers .ensures) (span .compose-span .ensures) .size in (
-      omega (
-        arith,
-        lent-places (begin .pre),
-        whole-places (begin .args .f .now) (begin .pre) bounds (rounds .rounds .ensures) .0,
-        begin .pre .output,
-        put .put .kept .1 .1 .0,
-        size,
-      ),
-      omega (arith, begin .pre .enough, places .work-places .ensures, put .put .kept .1 .1 .0, size),
-    )
+    let begin = rounds .before .before .before .before in
+    let size = whole-within (begin .args .f .now) (begin .pre) bounds (rounds .rounds .ensures) (powers .powers .ensures) (span .compose-span .ensures) .size in
+    (omega arith, omega (arith, lent-places (begin .pre), whole-places (begin .args .f .now) (begin .pre) bounds (rounds .rounds .ensures) .0, put .put .kept .1 .1 .0, size))
 
 same-length : tie.Need-same-length
 same-length c = search needs
 
-same-length-2 : tie.Need-same-length-2
-same-length-2 c = search needs
-
 returns : tie.Need-returns
 unfolding blockLength
 returns c =
-    let finish = c .before .before .before .before in
-    let span = finish .before .before .before .before .before in
+    let moved = c .before .before in
+    let span = moved .before .before .before .before in
     let powers = span .before .before .before .before in
     let put = powers .before .before .before .before in
     let rounds = put .before .before in
-    let places = rounds .before in
-    let begin = places .before .before .before .before .before in
+    let begin = rounds .before .before .before .before in
     let f = begin .args .f .now in
     let g = begin .args .g .now in
     let w = begin .args .w .now in
     let number = rounds .rounds .ensures in
     let made = powers .powers .ensures in
     let joined = span .compose-span .ensures in
-    route-finished
-    (put-within (length f) g w (put .put .ensures) (whole-within (begin .args .f .now) (begin .pre) bounds number made joined) (omega arith))
-    (whole-value (begin .args .f .now) (begin .pre) bounds number made joined
+    let within = whole-within f (begin .pre) bounds number made joined in
+    route-moved ((rounds .rounds .result + 1) * begin .args .n)
+    (put-within (length f) g w (put .put .ensures) within (omega arith))
+    (whole-value f (begin .pre) bounds number made joined
     ∙ put-composed f g w (put .put .last .1 .1 .0) (begin .pre .modulus) (omega (arith, lent-places (begin .pre))) (put .put .ensures))
-    (whole-weight (begin .args .f .now) (begin .pre) bounds number made joined)
-    (begin .pre .output)
-    (rw (places .work-places .ensures) at (finish .finish .ensures))
+    (whole-weight f (begin .pre) bounds number made joined)
+    (omega (arith, lent-places (begin .pre), whole-places f (begin .pre) bounds number .0, put .put .kept .1 .1 .0, within .size))
+    (moved .move-down .ensures)
 
 pub ranged-spec : {M : Type 1} → statement M
 ranged-spec =
     tie.close
     (tie.spec
-    work-places-requires
     rounds-requires
     add-t
     mul-t
@@ -122,7 +105,6 @@ ranged-spec =
     powers-requires
     compose-span-requires
     add-sum
-    finish-requires
+    move-down-requires
     same-length
-    same-length-2
     returns)

@@ -1,0 +1,86 @@
+-- `chain::Chain::cycle` meets its contract. Assumes nothing.
+use borrow.Author.Needs.{needs}
+use native.Mathlib.Omega.{arith}
+use lib.ListN.{length}
+use mathlib.Core.Path.{sym, _∙_}
+use Rattle.chain.specs.Answered.{bounds-lent, cycle-accepted, cycle-refused}
+use Rattle.definition.specs.Refusal.{mostCycles}
+use Rattle.refusal.specs.Bounds.{CycleBounds, cycle-bounds}
+use Rattle.route.specs.Contract.{lent-places}
+use Rattle.chain.proofs.Chain.cycle.Statement.{statement}
+use Rattle.chain.proofs.Chain.cycle.Tie as tie
+
+cycle-requires : tie.Need-cycle-requires
+cycle-requires c κs = search needs
+
+same-length : tie.Need-same-length
+same-length c = search needs
+
+returns : tie.Need-returns
+returns c =
+    let args = c .before .before .before .before .before .before .args in
+    cycle-refused (args .list .now) (args .running .now) (args .work .now) (c .before .cycle .ensures) (c .if1 .taken)
+
+-- what number 0 tells
+module _ (c : tie.Else1) where
+  abbrev begin : tie.Start
+  begin = c .before .before .before .before .before .before
+
+  bounds : CycleBounds (begin .args .route) (begin .args .self .modulus) (begin .args .self .order) (begin .args .self .done)
+      (begin .args .list .now) (begin .args .running .now) (length (begin .args .work .now))
+  bounds = cycle-bounds _ _ _ _ _ _ _ (sym (c .before .cycle .ensures) ∙ c .if1 .left)
+
+run-requires : tie.Need-run-requires
+run-requires c κs = (bounds-lent (bounds (c .before .before)), bounds (c .before .before) .prime)
+
+cycle-places-requires : tie.Need-cycle-places-requires
+cycle-places-requires c κs =
+    let b = bounds (c .before .before .before .before .before) in
+    (b .order, b .outer)
+
+finish-requires : tie.Need-finish-requires
+finish-requires c κs =
+    let run = c .before .before .before .before .before in
+    let b = bounds (run .before .before .before) in
+    let size = run .run .kept .1 .1 .1 .1 .1 .0 in (
+      omega (arith, b .running, lent-places (bounds-lent b), size),
+      omega (arith, c .before .before .cycle-places .ensures, b .enough, size),
+    )
+
+-- the test that a number is 0, back from the end
+abbrev tested : tie.After-struct-known → tie.Else1
+tested c = c .before .before .before .before .before .before .before .before .before .before .before .before .before .before
+
+add-t27 : tie.Need-add-t27
+unfolding mostCycles
+add-t27 c = omega (arith, bounds (tested c) .not-full)
+
+same-length-2 : tie.Need-same-length-2
+same-length-2 c = search needs
+
+same-length-3 : tie.Need-same-length-3
+same-length-3 c = search needs
+
+returns-2 : tie.Need-returns-2
+returns-2 c =
+    let finish = c .before .before .before .before .before in
+    let places = finish .before .before .before in
+    let run = places .before .before .before in
+    let args = begin (tested c) .args in
+    cycle-accepted (args .list .now) (args .running .now) (args .work .now) (tested c .before .cycle .ensures) (tested c .if1 .left)
+    (bounds (tested c) .running) (run .run .ensures) (rw (places .cycle-places .ensures) at (finish .finish .ensures))
+
+pub cycle-spec : {M : Type 1} → statement M
+cycle-spec =
+    tie.close
+    (tie.spec
+    cycle-requires
+    same-length
+    returns
+    run-requires
+    cycle-places-requires
+    finish-requires
+    add-t27
+    same-length-2
+    same-length-3
+    returns-2)

@@ -1,0 +1,108 @@
+-- What opening a chain and a cycle promise, of a refused and of an accepted call.
+--
+--   identity-written                x modulo x^n is what `put` writes of the list 0 1
+--   open-refused open-accepted      opening
+--   bounds-lent                     what number 0 of a cycle tells suffices for a route
+--   cycle-refused cycle-accepted    a cycle
+-- Assumes nothing.
+use Prim.Native.Nat.{ℕ, zero, suc, _+_, _≤_}
+use native.Mathlib.Nat.{le-refl}
+use native.Mathlib.Omega.{arith}
+use mathlib.Core.List.{List, [], _∷_}
+use mathlib.Core.Logic.{_≢_}
+use mathlib.Core.Path.{_≡_, refl, sym, ap, _∙_}
+use lib.ListN.{length}
+use lib.Seq.{sets}
+use Rattle.algebra.specs.Lists.{length-tabulate, tabulate-cong}
+use Rattle.algebra.specs.Prime.{prime-positive}
+use Rattle.buffer.specs.Written.{sets-whole}
+use Rattle.definition.specs.Calls.{Cycle, Open}
+use Rattle.definition.specs.Chain.{counted}
+use Rattle.definition.specs.Lists.{coefficient, tabulate}
+use Rattle.definition.specs.Refusal.{composeWork, cycleRefusal, cycleWork, openRefusal}
+use Rattle.definition.specs.Reversion.{identity, identityAt}
+use Rattle.definition.specs.Substitution.{constant}
+use Rattle.definition.specs.Weight.{weight}
+use Rattle.refusal.specs.Answers.{answered-accepted, answered-refused, kept-accepted, kept-refused}
+use Rattle.refusal.specs.Bounds.{CycleBounds, OpenBounds}
+use Rattle.route.specs.Contract.{Finished, Lent, Route, route-finished}
+
+coefficient-identity : (k : ℕ) → coefficient (0 ∷ 1 ∷ []) k ≡ identityAt k
+unfolding coefficient identityAt constant
+coefficient-identity zero = refl
+coefficient-identity (suc zero) = refl
+coefficient-identity (suc (suc k)) = refl
+
+pub identity-written : (s : List ℕ) → sets s 0 (tabulate (length s) (coefficient (0 ∷ 1 ∷ []))) ≡ identity (length s)
+unfolding identity
+identity-written s =
+    sets-whole s (tabulate (length s) (coefficient (0 ∷ 1 ∷ []))) (length-tabulate (length s) _)
+    ∙ tabulate-cong (length s) (coefficient (0 ∷ 1 ∷ [])) identityAt (λ k b. coefficient-identity k)
+
+module _ {p n : ℕ} (s : List ℕ) {number : ℕ} (tested : number ≡ openRefusal p n (length s)) where
+  pub open-refused : number ≢ 0 → Open p n s s number 0 0 0 0
+  open-refused refused = record {
+    refusal = tested;
+    weighs = refl;
+    modulus = sym (answered-refused number p refused);
+    order = sym (answered-refused number n refused);
+    none-done = refl;
+    running = sym (kept-refused number (identity n) s refused);
+  }
+
+  pub open-accepted : {s′ : List ℕ} → number ≡ 0 → length s ≡ n → s′ ≡ identity (length s) → Open p n s s′ 0 0 p n 0
+  open-accepted accepted size written = record {
+    refusal = sym accepted ∙ tested;
+    weighs = refl;
+    modulus = sym (answered-accepted p refl);
+    order = sym (answered-accepted n refl);
+    none-done = refl;
+    running = written ∙ ap identity size ∙ sym (kept-accepted (identity n) s refl);
+  }
+
+-- a cycle asks for more work than compose
+work-within : (n m : ℕ) → composeWork n m ≤ cycleWork n m
+unfolding composeWork cycleWork
+work-within n m = omega arith
+
+pub bounds-lent : {route p n done work : ℕ} {c s : List ℕ} → CycleBounds route p n done c s work → Lent p n (length c) work
+bounds-lent {n = n} {c = c} b = record {
+  modulus = prime-positive (b .prime);
+  positive = b .positive;
+  order = b .order;
+  outer = b .outer;
+  enough = omega (arith, work-within n (length c), b .enough);
+}
+
+counted-refused : (number done : ℕ) → number ≢ 0 → done ≡ counted number done
+unfolding counted
+counted-refused zero done refused = absurd (refused refl)
+counted-refused (suc number) done refused = refl
+
+module _ {route p n done : ℕ} (c s work : List ℕ) {number : ℕ} (tested : number ≡ cycleRefusal route p n done c s (length work)) where
+  pub cycle-refused : number ≢ 0 → Cycle route p n done c s s work work number 0 p n done
+  cycle-refused refused = record {
+    refusal = tested;
+    weighs = sym (answered-refused number _ refused);
+    modulus = refl;
+    order = refl;
+    counts = counted-refused number done refused;
+    running = sym (kept-refused number _ s refused);
+    clears = sym (kept-refused number _ work refused);
+  }
+
+  pub cycle-accepted : {s′ then work′ : List ℕ} {result : ℕ} → number ≡ 0 → length s ≡ n
+      → Route p n c s (weight route p n (length c)) work then result → Finished (cycleWork n (length c)) then work′ s s′
+      → Cycle route p n done c s s′ work work′ 0 result p n (done + 1)
+  unfolding counted
+  cycle-accepted accepted size run finish =
+      let finished = route-finished run (work-within n (length c)) size finish in
+      record {
+        refusal = sym accepted ∙ tested;
+        weighs = run .sum ∙ sym (answered-accepted _ refl);
+        modulus = refl;
+        order = refl;
+        counts = omega arith;
+        running = finished .0 ∙ sym (kept-accepted _ s refl);
+        clears = finished .1 ∙ sym (kept-accepted _ work refl);
+      }

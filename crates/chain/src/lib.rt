@@ -1,0 +1,104 @@
+// Chains of cycles: a record of modulus, order and cycles done, by value, and the calls that open it and carry out a cycle. The running
+// series stands in a buffer that the caller lends.
+use refusal::Answer;
+ghost use mathlib.Core.Path.{_≡_};
+ghost use lib.ListN.{length};
+ghost use Rattle.definition.specs.Calls.{Cycle, Open};
+ghost use Rattle.definition.specs.Reversion.{identity};
+
+// A chain record.
+pub struct Chain {
+    pub modulus: u32,
+    pub order: usize,
+    pub done: u32,
+}
+
+// The record that a call leaves, with its answer.
+pub struct Next {
+    pub chain: Chain,
+    pub answer: Answer,
+}
+
+// The whole buffer becomes x modulo x^n, n being its count.
+fn put_identity(s: &mut [u32])
+    ensures { λ _. ⌜ now (s .exit) ≡ identity (length (now (s .entry))) ⌝ }
+{
+    let x = [0, 1];
+    route::put(&x, s.len(), s, 0);
+}
+
+impl Chain {
+    // Opens a chain: the running series becomes x modulo x^n.
+    pub fn open(modulus: u32, order: usize, running: &mut [u32]) -> Next
+        ensures { λ r. ⌜ Open modulus order (now (running .entry)) (now (running .exit)) (r .answer .number) (r .answer .weight)
+            (r .chain .modulus) (r .chain .order) (r .chain .done) ⌝ }
+    {
+        let number = refusal::open(modulus, order, running.len());
+        if number != 0 {
+            let none = Chain {
+                modulus: 0,
+                order: 0,
+                done: 0,
+            };
+            let refused = Answer {
+                number: number,
+                weight: 0,
+            };
+            return Next {
+                chain: none,
+                answer: refused,
+            };
+        }
+        put_identity(running);
+        let chain = Chain {
+            modulus: modulus,
+            order: order,
+            done: 0,
+        };
+        let answer = Answer {
+            number: 0,
+            weight: 0,
+        };
+        Next {
+            chain: chain,
+            answer: answer,
+        }
+    }
+
+    // A cycle: the running series S becomes C(S) modulo x^n by the route named, C being the list.
+    pub fn cycle(self, route: u32, list: &[u32], running: &mut [u32], work: &mut [u32]) -> Next
+        ensures { λ r. ⌜ Cycle route (self .modulus) (self .order) (self .done) (now (list .entry))
+            (now (running .entry)) (now (running .exit)) (now (work .entry)) (now (work .exit))
+            (r .answer .number) (r .answer .weight) (r .chain .modulus) (r .chain .order) (r .chain .done) ⌝ }
+    {
+        let p = self.modulus;
+        let n = self.order;
+        let number = refusal::cycle(route, p, n, self.done, list, running, work.len());
+        if number != 0 {
+            let refused = Answer {
+                number: number,
+                weight: 0,
+            };
+            return Next {
+                chain: self,
+                answer: refused,
+            };
+        }
+        let weight = compose::run(route, p, n, list, running, work);
+        let places = refusal::cycle_places(n, list.len());
+        route::finish(work, running, places);
+        let chain = Chain {
+            modulus: p,
+            order: n,
+            done: self.done + 1,
+        };
+        let answer = Answer {
+            number: 0,
+            weight: weight,
+        };
+        Next {
+            chain: chain,
+            answer: answer,
+        }
+    }
+}

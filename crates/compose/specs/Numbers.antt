@@ -1,0 +1,27 @@
+-- The weight of the route of each number.
+--
+--   weight-1 weight-2 weight-3 weight-4   the definition's `weight` at each of the four numbers
+-- Assumes nothing.
+use Prim.Native.Nat.{ℕ}
+use mathlib.Core.Logic.{_≢_}
+use mathlib.Core.Path.{_≡_, refl}
+use borrow.Author.Tests.{ne-eqb}
+use Rattle.definition.specs.Ranged.{blockLength}
+use Rattle.definition.specs.Weight.{bernsteinWeight, hornerWeight, kinoshitaLiWeight, rangedWeight, weight}
+
+module _ {route : ℕ} (p n m : ℕ) where
+  pub weight-1 : route ≡ 1 → weight route p n m ≡ hornerWeight n m
+  unfolding weight
+  weight-1 e = rw e
+
+  pub weight-2 : route ≡ 2 → weight route p n m ≡ rangedWeight blockLength n m
+  unfolding weight
+  weight-2 e = rw e
+
+  pub weight-3 : route ≡ 3 → weight route p n m ≡ bernsteinWeight p n m
+  unfolding weight
+  weight-3 e = rw e
+
+  pub weight-4 : route ≢ 1 → route ≢ 2 → route ≢ 3 → weight route p n m ≡ kinoshitaLiWeight n m
+  unfolding weight
+  weight-4 a b c = rw (ne-eqb route 1 a, ne-eqb route 2 b, ne-eqb route 3 c)

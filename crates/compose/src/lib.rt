@@ -1,0 +1,54 @@
+// The call compose: f(g) modulo x^n by the route named, or a refusal.
+use refusal::Answer;
+ghost use lib.ListN.{length};
+ghost use Rattle.definition.specs.Calls.{Compose};
+ghost use Rattle.definition.specs.Prime.{Prime};
+ghost use Rattle.definition.specs.Weight.{weight};
+ghost use Rattle.route.specs.Contract.{Lent, Route};
+
+// The route of this number: f(g) modulo x^n, at place 0 of w.
+pub fn run(route: u32, p: u32, n: usize, f: &[u32], g: &[u32], w: &mut [u32]) -> u64
+    requires { ⌜ Lent p n (length (now f)) (length (now w)) × Prime p ⌝ }
+    ensures { λ r. ⌜ Route p n (now (f .entry)) (now (g .entry)) (weight route p n (length (now (f .entry))))
+        (now (w .entry)) (now (w .exit)) r ⌝ }
+{
+    if route == 1 {
+        return horner::horner(p, n, f, g, w);
+    }
+    if route == 2 {
+        return ranged::ranged(p, n, f, g, w);
+    }
+    if route == 3 {
+        return bernstein::bernstein(p, n, f, g, w);
+    }
+    kinoshita_li::kinoshita_li(p, n, f, g, w)
+}
+
+// f(g) modulo x^n in `out`, with the weight of the route.
+pub fn compose(
+    route: u32,
+    p: u32,
+    n: usize,
+    f: &[u32],
+    g: &[u32],
+    out: &mut [u32],
+    work: &mut [u32],
+) -> Answer
+    ensures { λ r. ⌜ Compose route p n (now (f .entry)) (now (g .entry)) (now (out .entry)) (now (out .exit))
+        (now (work .entry)) (now (work .exit)) (r .number) (r .weight) ⌝ }
+{
+    let number = refusal::compose(route, p, n, f, g, out.len(), work.len());
+    if number != 0 {
+        return Answer {
+            number: number,
+            weight: 0,
+        };
+    }
+    let weight = run(route, p, n, f, g, work);
+    let places = route::work_places(n, f.len());
+    route::finish(work, out, places);
+    Answer {
+        number: 0,
+        weight: weight,
+    }
+}
