@@ -54,20 +54,18 @@ module _ {p : ℕ} (g h before : List ℕ) (o : Iteration p g h before) where
         let all : k ≡ n = omega (arith, reached .few) in
         record { reverses = rw (all, take-all n v (omega (arith, reached .size))) at (reached .reverses); within = reached .within }
 
-    module _ {j : ℕ} (below : k < n) (next : j ≡ min (2 * k - 1) n) where
+    -- a step to an order j between k and 2 k
+    module _ {j : ℕ} (further : k < j) (far : j < 2 * k) (fits : j ≤ n) where
       size-j : length (take j v) ≡ j
       size-j = length-take-le j v (omega (arith, reached .size))
-
-      several : 1 < k
-      several = omega (arith, reached .many)
 
       pub step-lent : (1 < length (take j v)) × Lent p (length (take j v)) (length g) (length now)
       unfolding composeWork
       step-lent = rw size-j (
-        omega (arith, several),
+        omega arith,
         record {
           modulus = o .lent .modulus;
-          positive = omega (arith, several);
+          positive = omega arith;
           order = omega (arith, o .lent .order);
           outer = o .lent .outer;
           enough = omega (arith, lent-places (o .lent), reached .within .size);
@@ -78,11 +76,11 @@ module _ {p : ℕ} (g h before : List ℕ) (o : Iteration p g h before) where
       unfolding composeWork newtonStep
       reached-next {v′} {now′} stepped = record {
         few = omega arith;
-        many = omega (arith, several);
+        many = omega (arith, reached .many);
         size = rw (length-append, size-v′, length-drop) (omega (arith, reached .size));
         reverses =
             rw (take-at v′ (drop j v) j size-v′, value)
-            (newton-reversion (o .lent .modulus) (o .above) j g (take j v) (omega (arith, several)) (omega (arith, several)) known);
+            (newton-reversion (o .lent .modulus) (o .above) j g (take j v) (omega arith) (omega arith) known);
         within = within-trans (reached .within) (within-wider (omega arith) (rw size-j (omega arith)) (stepped .within));
       }
         where
@@ -94,5 +92,5 @@ module _ {p : ℕ} (g h before : List ℕ) (o : Iteration p g h before) where
 
           known : Reversion p (suc (k - 1)) g (take (suc (k - 1)) (take j v))
           known =
-              let e : suc (k - 1) ≡ k = omega (arith, several) in
-              rw (e, take-take k j v (omega (arith, several))) (reached .reverses)
+              let e : suc (k - 1) ≡ k = omega arith in
+              rw (e, take-take k j v (omega arith)) (reached .reverses)

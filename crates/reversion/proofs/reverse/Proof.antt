@@ -49,15 +49,13 @@ newton-requires c κs =
 work-places-requires : tie.Need-work-places-requires
 work-places-requires c κs =
     let called = c .before .before .before .before .before in
-    let branch = called .before .before .before .before .before .before .before in
-    let known = within branch in
-    (known .order, known .inner)
+    let known = within (called .before .before .before .before .before .before .before) in
+    (omega (arith, known .order), known .inner)
 
 clear-requires : tie.Need-clear-requires
 clear-requires c κs =
     let called = c .before .before .before .before .before .before in
-    let branch = called .before .before .before .before .before .before .before in
-    let known = within branch in
+    let known = within (called .before .before .before .before .before .before .before) in
     omega (arith, known .enough, c .work-places .ensures, called .newton .ensures .within .size)
 
 same-length : tie.Need-same-length
