@@ -30,6 +30,21 @@ pub extern "C" fn trial_compose(
     compose::compose(route, p, n, f, g, out, work)
 }
 
+// The call reverse.
+#[no_mangle]
+pub extern "C" fn trial_reverse(
+    p: u32,
+    n: usize,
+    g: &[u32],
+    out: &mut [u32],
+    work: &mut [u32],
+) -> Answer
+    ensures { λ r. ⌜ Reverse p n (now (g .entry)) (now (out .entry)) (now (out .exit)) (now (work .entry)) (now (work .exit))
+        (r .number) (r .weight) ⌝ }
+{
+    reversion::reverse(p, n, g, out, work)
+}
+
 // Opening a chain.
 #[no_mangle]
 pub extern "C" fn trial_open(p: u32, n: usize, running: &mut [u32]) -> ChainAnswer

@@ -1,0 +1,90 @@
+-- `reversion::reverse` meets its contract. Assumes nothing.
+use borrow.Author.Needs.{needs}
+use native.Mathlib.Omega.{arith}
+use Prim.Native.Nat.{ℕ}
+use lib.ListN.{length}
+use mathlib.Core.Path.{_≡_, sym, _∙_}
+use Rattle.definition.specs.Refusal.{reverseRefusal}
+use Rattle.refusal.specs.Bounds.{ReverseBounds, reverse-bounds}
+use Rattle.reversion.specs.Answers.{reverse-accepted, reverse-iteration, reverse-refused}
+use Rattle.reversion.proofs.reverse.Statement.{statement}
+use Rattle.reversion.proofs.reverse.Tie as tie
+
+reverse-requires : tie.Need-reverse-requires
+reverse-requires c κs = search needs
+
+returns : tie.Need-returns
+returns c =
+    let begin = c .before .before .before .before .before in
+    reverse-refused (begin .args .p) (begin .args .n) (begin .args .g .now) (begin .args .out .now) (begin .args .work .now)
+    (c .before .reverse .ensures) (c .if1 .taken)
+
+-- an accepted call
+module _ (c : tie.Else1) where
+  abbrev begin : tie.Start
+  begin = c .before .before .before .before .before
+
+  abbrev places : ℕ
+  places = length (begin .args .out .now)
+
+  abbrev work : ℕ
+  work = length (begin .args .work .now)
+
+  accepted : reverseRefusal (begin .args .p) (begin .args .n) (begin .args .g .now) places work ≡ 0
+  accepted = sym (c .before .reverse .ensures) ∙ c .if1 .left
+
+  within : ReverseBounds (begin .args .p) (begin .args .n) (begin .args .g .now) places work
+  within = reverse-bounds (begin .args .p) (begin .args .n) (begin .args .g .now) places work accepted
+
+start-requires : tie.Need-start-requires
+start-requires c κs = let known = within (c .before) in (known .prime .above-one, omega (arith, known .positive, known .output))
+
+newton-requires : tie.Need-newton-requires
+newton-requires c κs =
+    let called = c .before .before .before .before in
+    let branch = called .before .before in
+    let args = begin branch .args in
+    reverse-iteration (args .p) (args .n) (args .g .now) (args .out .now) (args .work .now) (accepted branch) (called .start .ensures)
+
+work-places-requires : tie.Need-work-places-requires
+work-places-requires c κs =
+    let called = c .before .before .before .before .before in
+    let known = within (called .before .before .before .before .before .before .before) in
+    (omega (arith, known .order), known .inner)
+
+clear-requires : tie.Need-clear-requires
+clear-requires c κs =
+    let called = c .before .before .before .before .before .before in
+    let known = within (called .before .before .before .before .before .before .before) in
+    omega (arith, known .enough, c .work-places .ensures, called .newton .ensures .within .size)
+
+same-length : tie.Need-same-length
+same-length c = search needs
+
+same-length-2 : tie.Need-same-length-2
+same-length-2 c = search needs
+
+returns-2 : tie.Need-returns-2
+returns-2 c =
+    let clear = c .before .before in
+    let counted = clear .before in
+    let iterated = counted .before .before .before .before .before .before in
+    let begun = iterated .before .before .before .before .before in
+    let branch = begun .before .before in
+    let args = begin branch .args in
+    reverse-accepted (args .p) (args .n) (args .g .now) (args .out .now) (args .work .now) (accepted branch) (begun .start .ensures)
+    (iterated .newton .ensures) (counted .work-places .ensures) (clear .clear .ensures)
+
+pub reverse-spec : {M : Type 1} → statement M
+reverse-spec =
+    tie.close
+    (tie.spec
+    reverse-requires
+    returns
+    start-requires
+    newton-requires
+    work-places-requires
+    clear-requires
+    same-length
+    same-length-2
+    returns-2)

@@ -1,0 +1,12 @@
+-- The contracts of reversion's steps, and the laws behind them.
+--
+--   Newton      Newton's step on lists
+--   Step        Newton's step in the lent buffers
+--   Start       the series with which the iteration begins
+--   Iteration   the loop over the steps
+--   Answers     the call as a whole
+pub mod Newton
+pub mod Step
+pub mod Start
+pub mod Iteration
+pub mod Answers
