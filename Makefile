@@ -12,9 +12,9 @@ RUSTC := rustc --edition 2021 -O -D warnings
 LINK := -L target/staticlib -l static=trial
 SEED := 1
 
-.PHONY: test run bench clean formatted second linked library definitions wrong-definitions tools
+.PHONY: test run bench clean formatted trace second linked library definitions wrong-definitions tools
 
-test: tools formatted second wrong-definitions linked
+test: tools formatted trace second wrong-definitions linked
 	rt ci
 
 run: tools
@@ -23,6 +23,10 @@ run: tools
 
 formatted: tools
 	rt fmt --check
+
+# every name that docs/TRACE.md gives stands where it says
+trace: tools
+	python3 tests/trace/names.py
 
 # the plain second implementation checks itself
 second: tools $(SECOND)
