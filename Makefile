@@ -1,20 +1,20 @@
 # make test   the gate: formatting, the comparison tests, the proofs, the must-fail edits and the programs
 # make run    the job program on the whole case of document 01; until the program exists, the settled examples
-# make bench  each route beside the straightforward code of the second implementation, as ratios; no part of the gate
+# make bench  each route and reversion beside the straightforward code of the second implementation, as ratios; no part of the gate
 # make clean  removes target/, where everything that is built stands
 
 SECOND := target/tests/second
 DEFINITIONS := target/tests/definitions
-ROUTES := target/tests/routes
+LINKED := target/tests/linked
 BENCH := target/tests/bench
 PLAIN := $(wildcard tests/second/*.rs tests/second/*/*.rs)
 RUSTC := rustc --edition 2021 -O -D warnings
-LINKED := -L target/staticlib -l static=trial
+LINK := -L target/staticlib -l static=trial
 SEED := 1
 
-.PHONY: test run bench clean formatted second routes library definitions wrong-definitions tools
+.PHONY: test run bench clean formatted second linked library definitions wrong-definitions tools
 
-test: tools formatted second wrong-definitions routes
+test: tools formatted second wrong-definitions linked
 	rt ci
 
 run: tools
@@ -28,15 +28,15 @@ formatted: tools
 second: tools $(SECOND)
 	$(SECOND) $(SEED)
 
-# the four routes of the proved library, linked, held against the second implementation
-routes: tools library $(PLAIN)
-	mkdir -p $(dir $(ROUTES))
-	$(RUSTC) $(LINKED) -o $(ROUTES) tests/routes/main.rs
-	$(ROUTES) $(SEED)
+# the calls of the proved library, linked, held against the second implementation
+linked: tools library $(PLAIN)
+	mkdir -p $(dir $(LINKED))
+	$(RUSTC) $(LINK) -o $(LINKED) tests/linked/main.rs
+	$(LINKED) $(SEED)
 
 bench: tools library $(PLAIN)
 	mkdir -p $(dir $(BENCH))
-	$(RUSTC) $(LINKED) -o $(BENCH) tests/bench/main.rs
+	$(RUSTC) $(LINK) -o $(BENCH) tests/bench/main.rs
 	$(BENCH)
 
 # the static library, which is proved before it is written

@@ -5,31 +5,32 @@
 mod checks;
 mod plain;
 
+use checks::library::Plain;
 use checks::support::{run, Check};
 use checks::{calls, chain, equality, job, primes, render, reversion, routes, settled, traps};
 use std::process::ExitCode;
 
 const GROUPS: [(&str, Check); 24] = [
-    ("settled examples", settled::examples),
+    ("settled examples", settled::examples::<Plain>),
     ("whole case", settled::whole_case),
-    ("edges", settled::edges),
+    ("edges", settled::edges::<Plain>),
+    ("edges of the table and of rendering", settled::other_edges),
     ("routes: values and weights", routes::values_and_weights),
     ("routes: block lengths", routes::block_lengths),
     ("routes: larger cases", routes::larger_cases),
     ("equality: powers of (z - c)", equality::taylor),
-    ("equality: random pairs", equality::random_pairs),
-    ("equality: exhaustive pairs", equality::exhaustive_pairs),
-    ("reversion: both sides", reversion::both_sides),
-    ("reversion: exhaustive", reversion::exhaustive),
-    ("trap: Lagrange's formula", traps::lagrange),
+    ("equality: random pairs", equality::random_pairs::<Plain>),
+    ("equality: exhaustive pairs", equality::exhaustive_pairs::<Plain>),
+    ("reversion: both sides", reversion::both_sides::<Plain>),
+    ("reversion: exhaustive", reversion::exhaustive::<Plain>),
+    ("trap: Lagrange's formula", traps::lagrange::<Plain>),
     ("trap: f cut to n terms", traps::outer_cut),
     ("trap: order rounded down", traps::order_rounded_down),
     ("trap: d fixed", traps::window_fixed),
     ("trap: constant term counted in v", traps::constant_term_counted),
-    ("refusals and buffers: compose", calls::compose),
-    ("refusals and buffers: reverse", calls::reverse),
-    ("refusals and buffers: open and cycle", chain::refusals_and_buffers),
-    ("chain: composition of all cycles", chain::composition),
+    ("refusals and buffers", calls::refusals_and_buffers::<Plain>),
+    ("precedence of refusals", calls::precedence::<Plain>),
+    ("chain: composition of all cycles", chain::composition::<Plain>),
     ("primality", primes::primality),
     ("table", primes::table),
     ("rendering", render::render),

@@ -1,5 +1,6 @@
 -- Laws of the composition f(g) modulo x^n and p, of lists. Assumes nothing.
 --
+--   length-composed    a composition has n places
 --   series-composed    the series of a composition is the value of f at the series of g, below n
 --   series-constant    the series of a list without constant term has none
 --   composed-constant  a list of at most one place is a constant
@@ -39,7 +40,7 @@ use Rattle.algebra.specs.Series.{Series, tail, shift, shift-0, shift-suc
 use Rattle.algebra.specs.Substitution.{evaluate-assoc}
 use Rattle.algebra.specs.Vanishing.{taylor-agreement}
 use Rattle.algebra.specs.Valuation.{valuation-positive, valuation-zero, valuation-nonzero}
-use Rattle.algebra.specs.Lists.{tabulate-cong, coefficient-tabulate, ceilDiv-below}
+use Rattle.algebra.specs.Lists.{tabulate-cong, coefficient-tabulate, length-tabulate, ceilDiv-below}
 use Rattle.algebra.specs.Fermat.{residues-domain}
 use Rattle.definition.specs.Lists.{sum, tabulate, coefficient, ceilDiv}
 use Rattle.definition.specs.Prime.{Prime}
@@ -47,6 +48,10 @@ use Rattle.definition.specs.Ranged.{cutPower, joined}
 use Rattle.definition.specs.Substitution.{constant, composed, composedAt, hornerStep, substituted, substitutedTerm}
 use Rattle.definition.specs.Substitution as Plain
 use Rattle.definition.specs.Taylor.{shifted, valuation, leadingAt, leading}
+
+pub length-composed : (p n : ℕ) (f g : List ℕ) → length (composed p n f g) ≡ n
+unfolding composed
+length-composed p n f g = length-tabulate n (composedAt p f g)
 
 constant-at : (p : ℕ) (f g : List ℕ) → length f ≤ 1 → (k : ℕ) → constant (coefficient f 0 % p) k ≡ composedAt p f g k
 unfolding composedAt substituted substitutedTerm Plain.power constant coefficient sum

@@ -18,6 +18,7 @@ use mathlib.Core.Path.{_≡_, sym, _∙_}
 use mathlib.Core.List.{List}
 use lib.ListN.{length}
 use lib.Seq.{sets}
+use Rattle.algebra.specs.Composition.{length-composed}
 use Rattle.algebra.specs.Lists.{length-tabulate, tabulate-coefficient}
 use Rattle.bernstein.specs.Split.{composedPart}
 use Rattle.bernstein.specs.Weights.{weight-low}
@@ -25,7 +26,7 @@ use Rattle.definition.specs.Bernstein.{part, partCount, pthPowers, spreadList}
 use Rattle.definition.specs.Lists.{ceilDiv, coefficient, tabulate}
 use Rattle.definition.specs.Prime.{Prime}
 use Rattle.definition.specs.Ranged.{joined}
-use Rattle.definition.specs.Substitution.{composed, composedAt}
+use Rattle.definition.specs.Substitution.{composed}
 use Rattle.definition.specs.Weight.{bernsteinWeight}
 use Rattle.product.specs.Segments.{segment}
 use Rattle.route.specs.Table.{written-table}
@@ -69,10 +70,6 @@ pub record Joined (p n m : ℕ) (before after : List ℕ) (result : ℕ) : Type 
   pub within : Within (n + m) (n + n) before after
   pub value : segment after (n + m) n ≡ joined p n (segment before (nextAt n m) n) (segment before (n + m) n) (segment before 0 n)
   pub places : result ≡ n
-
-length-composed : (p n : ℕ) (f g : List ℕ) → length (composed p n f g) ≡ n
-unfolding composed
-length-composed p n f g = length-tabulate n (composedAt p f g)
 
 pub level-constant : {p n m : ℕ} {before after : List ℕ} → Room p n m before → m ≤ 1
     → after ≡ sets before (n + m) (composed p n (segment before n m) (segment before 0 n)) → Level p n m before after 0

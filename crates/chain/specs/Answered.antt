@@ -6,7 +6,6 @@
 --   cycle-refused cycle-accepted    a cycle
 -- Assumes nothing.
 use Prim.Native.Nat.{ℕ, zero, suc, _+_, _≤_}
-use native.Mathlib.Nat.{le-refl}
 use native.Mathlib.Omega.{arith}
 use mathlib.Core.List.{List, [], _∷_}
 use mathlib.Core.Logic.{_≢_}
@@ -16,6 +15,7 @@ use lib.Seq.{sets}
 use Rattle.algebra.specs.Lists.{length-tabulate, tabulate-cong}
 use Rattle.algebra.specs.Prime.{prime-positive}
 use Rattle.buffer.specs.Written.{sets-whole}
+use Rattle.definition.specs.Answer.{cleared}
 use Rattle.definition.specs.Calls.{Cycle, Open}
 use Rattle.definition.specs.Chain.{counted}
 use Rattle.definition.specs.Lists.{coefficient, tabulate}
@@ -24,7 +24,7 @@ use Rattle.definition.specs.Reversion.{identity, identityAt}
 use Rattle.definition.specs.Substitution.{constant}
 use Rattle.definition.specs.Weight.{weight}
 use Rattle.refusal.specs.Answers.{answered-accepted, answered-refused, kept-accepted, kept-refused}
-use Rattle.refusal.specs.Bounds.{CycleBounds, OpenBounds}
+use Rattle.refusal.specs.Bounds.{CycleBounds}
 use Rattle.route.specs.Contract.{Finished, Lent, Route, route-finished}
 
 coefficient-identity : (k : ℕ) → coefficient (0 ∷ 1 ∷ []) k ≡ identityAt k
@@ -91,12 +91,12 @@ module _ {route p n done : ℕ} (c s work : List ℕ) {number : ℕ} (tested : n
     clears = sym (kept-refused number _ work refused);
   }
 
-  pub cycle-accepted : {s′ then work′ : List ℕ} {result : ℕ} → number ≡ 0 → length s ≡ n
-      → Route p n c s (weight route p n (length c)) work then result → Finished (cycleWork n (length c)) then work′ s s′
-      → Cycle route p n done c s s′ work work′ 0 result p n (done + 1)
+  pub cycle-accepted : {s′ then work′ : List ℕ} {places result : ℕ} → number ≡ 0 → length s ≡ n
+      → Route p n c s (weight route p n (length c)) work then result
+      → places ≡ cycleWork n (length c) → Finished places then work′ s s′ → Cycle route p n done c s s′ work work′ 0 result p n (done + 1)
   unfolding counted
-  cycle-accepted accepted size run finish =
-      let finished = route-finished run (work-within n (length c)) size finish in
+  cycle-accepted accepted size run counts finish =
+      let finished = route-finished run (rw counts (work-within n (length c))) size finish in
       record {
         refusal = sym accepted ∙ tested;
         weighs = run .sum ∙ sym (answered-accepted _ refl);
@@ -104,5 +104,5 @@ module _ {route p n done : ℕ} (c s work : List ℕ) {number : ℕ} (tested : n
         order = refl;
         counts = omega arith;
         running = finished .0 ∙ sym (kept-accepted _ s refl);
-        clears = finished .1 ∙ sym (kept-accepted _ work refl);
+        clears = finished .1 ∙ ap (λ k. cleared k work) counts ∙ sym (kept-accepted _ work refl);
       }

@@ -1,4 +1,8 @@
 -- Chains.
 --
 --   Answered   what opening and a cycle promise, of a refused and of an accepted call
+--   Running    laws of the running series: its places, and a chain split in two
+--   Sequence   after every sequence of calls the running series is the composition of all cycles accepted
 pub mod Answered
+pub mod Running
+pub mod Sequence

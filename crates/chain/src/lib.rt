@@ -66,7 +66,7 @@ impl Chain {
     }
 
     // A cycle: the running series S becomes C(S) modulo x^n by the route named, C being the list.
-    pub fn cycle(self, route: u32, list: &[u32], running: &mut [u32], work: &mut [u32]) -> Next
+    pub fn cycle(mut self, route: u32, list: &[u32], running: &mut [u32], work: &mut [u32]) -> Next
         ensures { λ r. ⌜ Cycle route (self .modulus) (self .order) (self .done) (now (list .entry))
             (now (running .entry)) (now (running .exit)) (now (work .entry)) (now (work .exit))
             (r .answer .number) (r .answer .weight) (r .chain .modulus) (r .chain .order) (r .chain .done) ⌝ }
@@ -87,17 +87,13 @@ impl Chain {
         let weight = compose::run(route, p, n, list, running, work);
         let places = refusal::cycle_places(n, list.len());
         route::finish(work, running, places);
-        let chain = Chain {
-            modulus: p,
-            order: n,
-            done: self.done + 1,
-        };
+        self.done += 1;
         let answer = Answer {
             number: 0,
             weight: weight,
         };
         Next {
-            chain: chain,
+            chain: self,
             answer: answer,
         }
     }

@@ -5,12 +5,13 @@
 --   compose-accepted    a route, and then `finish`
 -- Assumes nothing.
 use Prim.Native.Nat.{ℕ}
-use native.Mathlib.Nat.{le-refl}
+use native.Mathlib.Nat.{le-of-eq}
 use mathlib.Core.List.{List}
 use mathlib.Core.Logic.{_≢_}
-use mathlib.Core.Path.{_≡_, refl, sym, _∙_}
+use mathlib.Core.Path.{_≡_, refl, sym, ap, _∙_}
 use lib.ListN.{length}
 use Rattle.algebra.specs.Prime.{prime-positive}
+use Rattle.definition.specs.Answer.{cleared}
 use Rattle.definition.specs.Calls.{Compose}
 use Rattle.definition.specs.Refusal.{composeRefusal, composeWork}
 use Rattle.definition.specs.Weight.{weight}
@@ -36,14 +37,14 @@ module _ {route p n : ℕ} (f g out work : List ℕ) {number : ℕ} (tested : nu
     clears = sym (kept-refused number _ work refused);
   }
 
-  pub compose-accepted : {out′ then work′ : List ℕ} {result : ℕ} → number ≡ 0 → length out ≡ n
-      → Route p n f g (weight route p n (length f)) work then result → Finished (composeWork n (length f)) then work′ out out′
-      → Compose route p n f g out out′ work work′ 0 result
-  compose-accepted accepted size run done =
-      let finished = route-finished run (le-refl _) size done in
+  pub compose-accepted : {out′ then work′ : List ℕ} {places result : ℕ} → number ≡ 0 → length out ≡ n
+      → Route p n f g (weight route p n (length f)) work then result
+      → places ≡ composeWork n (length f) → Finished places then work′ out out′ → Compose route p n f g out out′ work work′ 0 result
+  compose-accepted accepted size run counted finish =
+      let finished = route-finished run (le-of-eq (sym counted)) size finish in
       record {
         refusal = sym accepted ∙ tested;
         weighs = run .sum ∙ sym (answered-accepted _ refl);
         output = finished .0 ∙ sym (kept-accepted _ out refl);
-        clears = finished .1 ∙ sym (kept-accepted _ work refl);
+        clears = finished .1 ∙ ap (λ k. cleared k work) counted ∙ sym (kept-accepted _ work refl);
       }

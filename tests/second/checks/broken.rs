@@ -1,55 +1,149 @@
 //! Calls broken on purpose. A call is drawn that would be accepted and then altered in some of the
 //! ways that the table of numbers names; the lowest of these numbers must come back.
 
+use super::library::{Call, Input};
+use super::reversion::reversible;
+use super::support::modulus;
 use crate::plain::random::Random;
-use std::fmt::{Debug, Formatter, Result};
 
-/// What compose, reverse or a cycle is given. The inner list is the one that 5 names, so in reverse
-/// the series and in a cycle the cycle list; the output is the one that 6 names, so in a cycle the
-/// running series.
-#[derive(Clone, Default)]
-pub struct Input {
-    pub route: u64,
-    pub p: u64,
-    pub n: u64,
-    pub outer: Vec<u32>,
-    pub inner: Vec<u32>,
-    pub out: Vec<u32>,
-    pub work: Vec<u32>,
-}
+/// Numbers that are no modulus: composite, or above the largest. 46337 is prime, and so are
+/// 2147483659 and 4294967291.
+pub const UNFIT_MODULI: [u64; 10] = [
+    0,
+    1,
+    4,
+    9,
+    46_337 * 46_337,
+    2_147_483_645,
+    2_147_483_648,
+    2_147_483_659,
+    4_294_967_291,
+    4_294_967_295,
+];
 
-impl Debug for Input {
-    /// Shows all but the content of the work buffer.
-    fn fmt(&self, formatter: &mut Formatter) -> Result {
-        let shown = (&self.outer, &self.inner, &self.out, self.work.len());
-        write!(formatter, "{:?} {shown:?}", (self.route, self.p, self.n))
-    }
-}
+pub const UNFIT_ORDERS: [u64; 6] = [0, 4097, 4098, 1 << 32, (1 << 32) + 1, u64::MAX];
+
+/// The largest order for which buffers are made as long as it asks.
+const LARGEST_MADE: u64 = 4097;
 
 impl Input {
-    /// Alters the input in the ways that the numbers from 1 to 6 name.
-    pub fn alter(&mut self, random: &mut Random, broken: &[u32]) {
-        let places = self.out.len();
+    /// An input that the call accepts, with dirty buffers.
+    pub fn draw(random: &mut Random, call: Call) -> Input {
+        let (p, n, done) = (modulus(random), random.count(1, 8), random.below(64));
+        let mut input = Input { route: random.route(), p, n: n as u64, done, ..Input::default() };
+        let (count, other_count) = (random.count(1, 9), random.count(0, 9));
+        input.out = random.buffer(n);
+        match call {
+            Call::Compose => {
+                input.outer = random.list(p, other_count);
+                input.inner = random.list(p, count - 1);
+            }
+            Call::Reverse => input.inner = reversible(random, p, count),
+            Call::Open => (),
+            Call::Cycle => {
+                input.inner = without_constant(random, p, count);
+                input.out = without_constant(random, p, n);
+            }
+        }
+        input.lend(random, call);
+        input
+    }
+
+    /// A dirty work buffer of the length that the call needs or more, if that can be made.
+    pub fn lend(&mut self, random: &mut Random, call: Call) {
+        if self.n <= LARGEST_MADE && call != Call::Open {
+            let longer = random.pick(&[0, 1, 9]);
+            self.work = random.buffer(call.needed(self) as usize + longer);
+        }
+    }
+
+    /// Alters an accepted input so that each of these numbers, in rising order, has its reason.
+    pub fn alter(&mut self, random: &mut Random, call: Call, broken: &[u32]) {
         for number in broken {
             match number {
-                1 => self.route = random.pick(&[0, 5, 257, (1 << 32) + 1, u64::MAX]),
+                1 => self.route = random.pick(&[0, 5, 257, u64::from(u32::MAX)]),
                 2 => self.p = random.pick(&UNFIT_MODULI),
-                3 => self.n = random.pick(&UNFIT_ORDERS),
+                3 => self.alter_order(random),
                 4 => self.outer.resize(random.pick(&[4097, 5000]), 0),
                 5 => self.inner.resize(random.pick(&[4097, 5000]), 0),
-                6 => self.out.resize(other_length(random, places), 9),
+                6 => self.out.resize(other_length(random, self.out.len()), 0),
+                8 => self.put_too_large(random, call),
+                9 => self.make_irreversible(random, broken.contains(&8)),
+                10 => self.put_constant(random),
+                11 => self.done = random.pick(&[64, 65, u64::from(u32::MAX)]),
                 _ => (),
             }
         }
+        self.lend(random, call);
+        if broken.contains(&7) {
+            self.shorten_work(random, call);
+        }
+    }
+
+    fn alter_order(&mut self, random: &mut Random) {
+        self.n = random.pick(&UNFIT_ORDERS);
+        if self.n <= LARGEST_MADE {
+            self.out.resize(self.n as usize, 0);
+        }
+    }
+
+    /// Puts a number of at least p into one of the lists that 8 names.
+    fn put_too_large(&mut self, random: &mut Random, call: Call) {
+        let other = match call {
+            Call::Compose => &mut self.outer,
+            Call::Cycle if !self.out.is_empty() => &mut self.out,
+            _ => &mut self.inner,
+        };
+        if random.once_in(2) {
+            put_too_large(random, self.p, other);
+        } else {
+            put_too_large(random, self.p, &mut self.inner);
+        }
+    }
+
+    /// Makes the series have no reverse: by its constant term, or from order 2 by its linear
+    /// coefficient, which is not touched where a coefficient is too large.
+    fn make_irreversible(&mut self, random: &mut Random, too_large: bool) {
+        if self.n < 2 || too_large || random.once_in(2) {
+            put_constant(random, self.p, &mut self.inner);
+        } else if self.inner.len() > 9 || random.once_in(2) {
+            self.inner[1] = 0;
+        } else {
+            self.inner.truncate(random.count(0, 1));
+        }
+    }
+
+    /// Gives the cycle list or the running series a constant term.
+    fn put_constant(&mut self, random: &mut Random) {
+        let either =
+            if self.out.is_empty() || random.once_in(2) { &mut self.inner } else { &mut self.out };
+        put_constant(random, self.p, either);
+    }
+
+    /// Makes the work buffer too short. With order 0 and an outer list without places none would be.
+    fn shorten_work(&mut self, random: &mut Random, call: Call) {
+        if call.needed(self) == 0 {
+            self.outer.push(0);
+        }
+        let longest = call.needed(self) - 1;
+        let places = random.pick(&[0, longest / 2, longest]).min(1 << 20);
+        self.work = random.buffer(places as usize);
     }
 }
 
-/// Numbers that are no modulus: composite, or above the largest. 46337 is prime, and so is
-/// 4294967291.
-const UNFIT_MODULI: [u64; 9] =
-    [0, 1, 4, 9, 46_337 * 46_337, 2_147_483_645, 2_147_483_648, 4_294_967_291, u64::MAX];
+/// A list of this many places without constant term.
+pub fn without_constant(random: &mut Random, p: u64, count: usize) -> Vec<u32> {
+    let mut list = random.list(p, count);
+    list[0] = 0;
+    list
+}
 
-pub const UNFIT_ORDERS: [u64; 6] = [0, 4097, 4098, 1 << 32, (1 << 32) + 1, u64::MAX];
+/// Makes the constant term something other than zero, if it is not yet; p may be no modulus.
+fn put_constant(random: &mut Random, p: u64, list: &mut [u32]) {
+    if list[0] == 0 {
+        list[0] = random.non_zero(p.max(2));
+    }
+}
 
 /// Some of the numbers, each once in eight times.
 pub fn some(random: &mut Random, numbers: &[u32]) -> Vec<u32> {
@@ -68,26 +162,15 @@ pub fn put_too_large(random: &mut Random, p: u64, list: &mut Vec<u32>) {
         list.push(0);
     }
     let place = random.count(0, list.len() - 1);
-    let excess = random.pick(&[0, 1, u64::from(u32::MAX) - p]);
-    list[place] = (p + excess) as u32;
+    let largest = u64::from(u32::MAX);
+    let number = random.pick(&[p, p + 1, largest]).min(largest);
+    list[place] = number as u32;
 }
 
-/// A length other than n, which is at least 1.
+/// A length other than n.
 pub fn other_length(random: &mut Random, n: usize) -> usize {
-    random.pick(&[0, n - 1, n + 1, 2 * n])
-}
-
-/// A work buffer of the length needed or more, or too short.
-pub fn work_buffer(random: &mut Random, needed: usize, short: bool) -> Vec<u32> {
-    let length = if short {
-        random.pick(&[0, needed / 2, needed - 1])
-    } else {
-        needed + random.pick(&[0, 1, 5])
-    };
-    random.buffer(length)
-}
-
-/// The work buffer after an accepted call: the places needed are zero, later ones as before.
-pub fn cleared(before: &[u32], needed: usize) -> Vec<u32> {
-    [vec![0; needed], before[needed..].to_vec()].concat()
+    match n {
+        0 => 1,
+        _ => random.pick(&[0, n - 1, n + 1, 2 * n]),
+    }
 }

@@ -1,98 +1,65 @@
-//! Compose and reverse: the number that comes back, and what each call leaves in its buffers.
+//! The number that each call returns and what it leaves in its buffers and its record, accepted or
+//! broken on purpose.
 
-use super::broken::{cleared, lowest, put_too_large, some, work_buffer, Input};
-use super::reversion::{identity, reversible};
-use super::support::{modulus, weight, Tally};
-use crate::plain::calls::{self, Answer};
+use super::broken::{lowest, some};
+use super::library::{Call, Input, Left, Library};
+use super::reversion::identity;
+use super::support::{weight, Tally};
 use crate::plain::random::Random;
 use crate::plain::substitution::substitution;
 
+/// Calls of each kind with some reasons of refusal, and with each pair of reasons.
 const CALLS: usize = 3000;
+const CALLS_OF_PAIR: usize = 12;
 
-pub fn compose(tally: &mut Tally, random: &mut Random) {
-    for _ in 0..CALLS {
-        let broken = some(random, &[1, 2, 3, 4, 5, 6, 7, 8]);
-        composed(tally, random, &broken);
-    }
-    for number in 1..=8 {
-        composed(tally, random, &[number]);
+pub fn refusals_and_buffers<L: Library>(tally: &mut Tally, random: &mut Random) {
+    for call in Call::ALL {
+        for _ in 0..CALLS {
+            let broken = some(random, call.numbers());
+            checked::<L>(tally, random, call, &broken);
+        }
     }
 }
 
-fn composed(tally: &mut Tally, random: &mut Random, broken: &[u32]) {
-    let (p, n) = (modulus(random), random.count(1, 8));
-    let (m, inner_count) = (random.count(0, 9), random.count(0, 9));
-    let (mut outer, mut inner) = (random.list(p, m), random.list(p, inner_count));
-    if broken.contains(&8) {
-        let either = if random.once_in(2) { &mut outer } else { &mut inner };
-        put_too_large(random, p, either);
-    }
-    let needed = 128 * n + 8 * outer.len();
-    let work = work_buffer(random, needed, broken.contains(&7));
-    let (route, out) = (random.route(), random.buffer(n));
-    let mut input = Input { route, p, n: n as u64, outer, inner, out, work };
-    input.alter(random, broken);
-    let (found, out, work) = call_compose(&input);
-    let wanted = if broken.is_empty() {
-        let weight = weight(route, p, m, n);
-        let value = substitution(p, &input.outer, &input.inner, n);
-        (Answer { number: 0, weight }, value, cleared(&input.work, needed))
-    } else {
-        let refused = Answer { number: lowest(broken), weight: 0 };
-        (refused, input.out.clone(), input.work.clone())
-    };
-    tally.equal(input, (found, out, work), wanted);
-}
-
-/// The answer, and what the call leaves in copies of the buffers.
-fn call_compose(input: &Input) -> (Answer, Vec<u32>, Vec<u32>) {
-    let Input { route, p, n, outer, inner, mut out, mut work } = input.clone();
-    let answer = calls::compose(route, p, n, &outer, &inner, &mut out, &mut work);
-    (answer, out, work)
-}
-
-pub fn reverse(tally: &mut Tally, random: &mut Random) {
-    for _ in 0..CALLS {
-        let broken = some(random, &[2, 3, 5, 6, 7, 8, 9]);
-        reversed(tally, random, &broken);
-    }
-    for number in [2, 3, 5, 6, 7, 8, 9] {
-        reversed(tally, random, &[number]);
+/// Every pair of reasons, and each reason alone.
+pub fn precedence<L: Library>(tally: &mut Tally, random: &mut Random) {
+    for call in Call::ALL {
+        for (i, &first) in call.numbers().iter().enumerate() {
+            for &second in &call.numbers()[i..] {
+                let mut broken = vec![first, second];
+                broken.dedup();
+                for _ in 0..CALLS_OF_PAIR {
+                    checked::<L>(tally, random, call, &broken);
+                }
+            }
+        }
     }
 }
 
-fn reversed(tally: &mut Tally, random: &mut Random, broken: &[u32]) {
-    let (p, n, count) = (modulus(random), random.count(1, 8), random.count(0, 9));
-    let mut inner = reversible(random, p, count);
-    if broken.contains(&9) {
-        make_irreversible(random, p, n, &mut inner);
-    }
-    if broken.contains(&8) {
-        put_too_large(random, p, &mut inner);
-    }
-    let needed = 128 * n + 8 * inner.len();
-    let work = work_buffer(random, needed, broken.contains(&7));
-    let out = random.buffer(n);
-    let mut input = Input { p, n: n as u64, inner, out, work, ..Input::default() };
-    input.alter(random, broken);
-    let Input { mut out, mut work, .. } = input.clone();
-    let answer = calls::reverse(input.p, input.n, &input.inner, &mut out, &mut work);
-    tally.equal(&input, answer, Answer { number: lowest(broken), weight: 0 });
+fn checked<L: Library>(tally: &mut Tally, random: &mut Random, call: Call, broken: &[u32]) {
+    let mut input = Input::draw(random, call);
+    input.alter(random, call, broken);
+    let left = call.make::<L>(&input);
     if broken.is_empty() {
-        tally.equal(&input, substitution(p, &input.inner, &out, n), identity(n));
-        tally.equal(&input, work, cleared(&input.work, needed));
+        accepted(tally, call, &input, left);
     } else {
-        tally.equal(&input, (&out, &work), (&input.out, &input.work));
+        tally.equal((call, broken, &input), left, call.refused(&input, lowest(broken)));
     }
 }
 
-/// Makes a series have no reverse: by its constant term, or from order 2 by its linear coefficient.
-fn make_irreversible(random: &mut Random, p: u64, n: usize, series: &mut Vec<u32>) {
-    if n == 1 || random.once_in(2) {
-        series[0] = random.non_zero(p);
-    } else if random.once_in(2) {
-        series[1] = 0;
-    } else {
-        series.truncate(random.count(0, 1));
-    }
+/// Compares what an accepted call left with what the definitions say.
+pub fn accepted(tally: &mut Tally, call: Call, input: &Input, left: Left) {
+    let Input { route, p, outer, inner, out, .. } = input;
+    let n = input.n as usize;
+    let (value, weight) = match call {
+        Call::Compose => (substitution(*p, outer, inner, n), weight(*route, *p, outer.len(), n)),
+        Call::Reverse => {
+            let restored = substitution(*p, inner, &left.out, n);
+            tally.equal((call, input, &left), (restored, left.out[0]), (identity(n), 0));
+            (left.out.clone(), 0)
+        }
+        Call::Open => (identity(n), 0),
+        Call::Cycle => (substitution(*p, inner, out, n), weight(*route, *p, inner.len(), n)),
+    };
+    tally.equal((call, input), left, call.accepted(input, value, weight));
 }

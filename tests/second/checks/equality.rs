@@ -1,12 +1,13 @@
 //! Two answers for one p, n and g are equal exactly when the outer lists agree in their first n/v
 //! coefficients, rounded up, in powers of (z - c).
 
-use super::support::{add_power, compose, lists_up_to, modulus, Case, Tally};
+use super::library::Library;
+use super::support::{add_power, compose, lists_up_to, modulus, seen, Case, Tally};
 use crate::plain::chain::Chain;
 use crate::plain::random::Random;
 use crate::plain::substitution::substitution;
 use crate::plain::taylor::{coefficients, constant_term, deciding_coefficients, least_power};
-use crate::plain::{field, products, refusals, routes};
+use crate::plain::{field, products, refusals};
 
 const PAIRS: usize = 8000;
 
@@ -28,16 +29,29 @@ pub fn taylor(tally: &mut Tally, random: &mut Random) {
     }
 }
 
-pub fn random_pairs(tally: &mut Tally, random: &mut Random) {
-    let mut equal = 0;
+/// Pairs of two composes, of a compose and a cycle, and of two cycles, by routes that may differ;
+/// each kind with equal and with different answers.
+pub fn random_pairs<L: Library>(tally: &mut Tally, random: &mut Random) {
+    let mut pairs = [[0; 2]; 3];
+    let mut different_routes = 0;
     for _ in 0..PAIRS {
-        let [first, second] = pair(random);
+        let cases = pair(random);
         let deciding = |case: &Case| deciding_coefficients(case.p, &case.f, &case.g, case.n);
-        let agree = deciding(&first) == deciding(&second);
-        let answers = [answer(tally, random, &first), answer(tally, random, &second)];
-        tally.equal((&first, &second), answers[0] == answers[1], agree);
-        equal += usize::from(agree);
+        let agree = deciding(&cases[0]) == deciding(&cases[1]);
+        let routes = [random.route(), random.route()];
+        let chained = [in_chain(random, &cases[0]), in_chain(random, &cases[1])];
+        let mut of = |i: usize| answer::<L>(tally, random, routes[i], chained[i], &cases[i]);
+        let same = of(0) == of(1);
+        tally.equal((routes, chained, &cases), same, agree);
+        pairs[usize::from(chained[0]) + usize::from(chained[1])][usize::from(agree)] += 1;
+        different_routes += usize::from(routes[0] != routes[1]);
     }
+    for (cycles, [unequal, equal]) in pairs.into_iter().enumerate() {
+        seen(tally, &format!("pairs with {cycles} cycles, equal answers"), equal);
+        seen(tally, &format!("pairs with {cycles} cycles, different answers"), unequal);
+    }
+    seen(tally, "pairs by different routes", different_routes);
+    let equal: usize = pairs.iter().map(|[_, equal]| equal).sum();
     let frequent = PAIRS / 4 < equal && equal < 3 * PAIRS / 4;
     tally.equal((equal, "pairs of", PAIRS, "are equal: both outcomes frequent"), frequent, true);
 }
@@ -67,15 +81,23 @@ fn pair(random: &mut Random) -> [Case; 2] {
     [Case { p, n, f, g }, Case { p, n, f: other, g: extended }]
 }
 
-/// The output of a call by some route, which must be the substitution: of a cycle in some of the
-/// cases where both lists have constant term zero, else of compose.
-fn answer(tally: &mut Tally, random: &mut Random, case: &Case) -> Vec<u32> {
-    let route = random.route();
-    let chained = constant_term(&case.f) == 0 && constant_term(&case.g) == 0 && random.once_in(2);
+/// Whether a case is made in a chain: once in two times where both lists have constant term zero.
+fn in_chain(random: &mut Random, case: &Case) -> bool {
+    constant_term(&case.f) == 0 && constant_term(&case.g) == 0 && random.once_in(2)
+}
+
+/// The output of a compose, or of a cycle, which must be the substitution.
+fn answer<L: Library>(
+    tally: &mut Tally,
+    random: &mut Random,
+    route: u64,
+    chained: bool,
+    case: &Case,
+) -> Vec<u32> {
     let (number, out) = if chained {
-        cycle(random, route, case)
+        cycle::<L>(random, route, case)
     } else {
-        let (answer, out) = compose(random, route, case);
+        let (answer, out) = compose::<L>(random, route, case);
         (answer.number, out)
     };
     let value = substitution(case.p, &case.f, &case.g, case.n);
@@ -83,37 +105,45 @@ fn answer(tally: &mut Tally, random: &mut Random, case: &Case) -> Vec<u32> {
     out
 }
 
-fn cycle(random: &mut Random, route: u64, case: &Case) -> (u32, Vec<u32>) {
+fn cycle<L: Library>(random: &mut Random, route: u64, case: &Case) -> (u32, Vec<u32>) {
     let n = case.n as u64;
     let mut running = products::places(&case.g, case.n);
     let mut work = random.buffer(refusals::cycle_work_places(n, case.f.len()) as usize);
     let chain = Chain { modulus: case.p, order: n, done: random.below(64) };
-    let (_, answer) = chain.cycle(route, &case.f, &mut running, &mut work);
+    let (_, answer) = L::cycle(chain, route, &case.f, &mut running, &mut work);
     (answer.number, running)
 }
 
 /// All pairs of short outer lists, with all inner lists of at most n places.
-pub fn exhaustive_pairs(tally: &mut Tally, _: &mut Random) {
+pub fn exhaustive_pairs<L: Library>(tally: &mut Tally, random: &mut Random) {
     for (p, longest) in [(2, 5), (3, 3)] {
-        for n in 1..=3 {
+        for n in 1..=4 {
             for g in lists_up_to(p, n) {
-                exhaustive_outer_lists(tally, u64::from(p), n, &g, &lists_up_to(p, longest));
+                let outers = lists_up_to(p, longest);
+                exhaustive_outer_lists::<L>(tally, random, u64::from(p), n, &g, outers);
             }
         }
     }
 }
 
-fn exhaustive_outer_lists(tally: &mut Tally, p: u64, n: usize, g: &[u32], outers: &[Vec<u32>]) {
+/// All pairs of these outer lists, each answered by every route and compared by one of them.
+fn exhaustive_outer_lists<L: Library>(
+    tally: &mut Tally,
+    random: &mut Random,
+    p: u64,
+    n: usize,
+    g: &[u32],
+    outers: Vec<Vec<u32>>,
+) {
     let mut answers = Vec::new();
-    for (i, f) in outers.iter().enumerate() {
-        let value = substitution(p, f, g, n);
-        for route in 1..=4 {
-            let (out, _) = routes::by_number(route, p, f, g, n);
-            tally.equal((route, p, n, f, g), &out, &value);
-            if route == 1 + i as u64 % 4 {
-                answers.push((f, out, deciding_coefficients(p, f, g, n)));
-            }
-        }
+    for (i, f) in outers.into_iter().enumerate() {
+        let case = Case { p, n, f, g: g.to_vec() };
+        let outputs = [1, 2, 3, 4].map(|route| {
+            let chained = in_chain(random, &case);
+            answer::<L>(tally, random, route, chained, &case)
+        });
+        let deciding = deciding_coefficients(p, &case.f, g, n);
+        answers.push((case.f, outputs[i % 4].clone(), deciding));
     }
     for (f, out, deciding) in &answers {
         for (other_f, other_out, other_deciding) in &answers {

@@ -5,6 +5,7 @@ pub mod calls;
 pub mod chain;
 pub mod equality;
 pub mod job;
+pub mod library;
 pub mod primes;
 pub mod render;
 pub mod reversion;

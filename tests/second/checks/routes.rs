@@ -1,5 +1,6 @@
 //! Each route gives the substitution, and the weight counted product by product is its rule's.
 
+use super::library::Plain;
 use super::support::{compose, weight, Case, Tally};
 use crate::plain::calls::Answer;
 use crate::plain::random::Random;
@@ -13,7 +14,7 @@ pub fn values_and_weights(tally: &mut Tally, random: &mut Random) {
         let value = substitution(case.p, &case.f, &case.g, case.n);
         for route in 1..=4 {
             let weight = weight(route, case.p, case.f.len(), case.n);
-            let found = compose(random, route, &case);
+            let found = compose::<Plain>(random, route, &case);
             let wanted = (Answer { number: 0, weight }, value.clone());
             tally.equal((route, &case), found, wanted);
         }

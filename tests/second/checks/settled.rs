@@ -1,8 +1,8 @@
 //! The values that the statement settles: the twelve examples, the whole case and the edges.
 
+use super::library::Library;
 use super::support::{compose, reverse, Case, Tally};
 use crate::plain::calls::{self, Answer};
-use crate::plain::chain::Chain;
 use crate::plain::random::Random;
 use crate::plain::{job, primes, refusals, render, substitution::substitution};
 
@@ -10,20 +10,20 @@ fn case(p: u64, f: &[u32], g: &[u32], n: usize) -> Case {
     Case { p, n, f: f.to_vec(), g: g.to_vec() }
 }
 
-pub fn examples(tally: &mut Tally, random: &mut Random) {
-    composed_examples(tally, random);
-    weighed_examples(tally, random);
-    reversed_examples(tally, random);
+pub fn examples<L: Library>(tally: &mut Tally, random: &mut Random) {
+    composed_examples::<L>(tally, random);
+    weighed_examples::<L>(tally, random);
+    reversed_examples::<L>(tally, random);
     for route in 1..=4 {
         for f in [&[1, 1][..], &[1, 1, 5]] {
             let example = case(7, f, &[0, 0, 1], 3);
-            let (answer, out) = compose(random, route, &example);
+            let (answer, out) = compose::<L>(random, route, &example);
             tally.equal((route, &example), (answer.number, out), (0, vec![1, 0, 1]));
         }
     }
 }
 
-fn composed_examples(tally: &mut Tally, random: &mut Random) {
+fn composed_examples<L: Library>(tally: &mut Tally, random: &mut Random) {
     let rows = [
         (1, case(7, &[1, 2, 3], &[0, 1, 1], 4), vec![1, 2, 5, 6], 8),
         (3, case(5, &[1, 2, 3], &[0, 1, 1], 4), vec![1, 2, 0, 1], 8),
@@ -32,28 +32,28 @@ fn composed_examples(tally: &mut Tally, random: &mut Random) {
         (4, case(7, &[3, 4], &[2], 1), vec![4], 0),
     ];
     for (route, example, value, weight) in rows {
-        let found = compose(random, route, &example);
+        let found = compose::<L>(random, route, &example);
         tally.equal((route, &example), found, (Answer { number: 0, weight }, value));
     }
 }
 
-fn weighed_examples(tally: &mut Tally, random: &mut Random) {
+fn weighed_examples<L: Library>(tally: &mut Tally, random: &mut Random) {
     for (route, p, weight) in [(2, 7, 44), (3, 2, 13)] {
         let example = case(p, &random.list(p, 9), &random.list(p, 4), 4);
-        let (answer, _) = compose(random, route, &example);
+        let (answer, _) = compose::<L>(random, route, &example);
         tally.equal((route, &example), answer, Answer { number: 0, weight });
     }
 }
 
-fn reversed_examples(tally: &mut Tally, random: &mut Random) {
+fn reversed_examples<L: Library>(tally: &mut Tally, random: &mut Random) {
     let series = [0, 1, 1];
     for (p, value) in [(7, vec![0, 1, 6, 2]), (2, vec![0, 1, 1, 0])] {
-        let (answer, out) = reverse(random, p, &series, 4);
+        let (answer, out) = reverse::<L>(random, p, &series, 4);
         tally.equal((p, series), (answer.number, out), (0, value));
     }
-    let (answer, _) = reverse(random, 7, &[0, 0, 1], 2);
+    let (answer, _) = reverse::<L>(random, 7, &[0, 0, 1], 2);
     tally.equal("reverse 0 0 1, n 2", answer.number, 9);
-    let (answer, out) = reverse(random, 7, &[0, 0, 1], 1);
+    let (answer, out) = reverse::<L>(random, 7, &[0, 0, 1], 1);
     tally.equal("reverse 0 0 1, n 1", (answer.number, out), (0, vec![0]));
 }
 
@@ -64,67 +64,73 @@ pub fn whole_case(tally: &mut Tally, _: &mut Random) {
     tally.equal(&file, job::run(&file), b"ok 4 8\n1 2 5 6\n".to_vec());
 }
 
-pub fn edges(tally: &mut Tally, random: &mut Random) {
-    edge_of_order(tally, random);
-    edges_of_lists(tally, random);
-    edge_of_cycles(tally, random);
+pub fn edges<L: Library>(tally: &mut Tally, random: &mut Random) {
+    edge_of_order::<L>(tally, random);
+    edges_of_lists::<L>(tally, random);
+    edge_of_cycles::<L>(tally, random);
+}
+
+/// The edges of the table and of rendering.
+pub fn other_edges(tally: &mut Tally, _: &mut Random) {
+    for (n, number) in [(4096, 0), (4097, 3)] {
+        let list = vec![0; n];
+        let (found, _) = render::render(0, n as u64, 0, &list, &mut vec![0; 3 * n]);
+        tally.equal(("render", n), found, number);
+    }
     let (number, prime) = calls::table(15);
     tally.equal("index 15", (number, primes::is_prime(u64::from(prime))), (0, true));
     tally.equal("index 16", calls::table(16), (14, 0));
 }
 
 /// Order 4096 is accepted and 4097 gives 3.
-fn edge_of_order(tally: &mut Tally, random: &mut Random) {
+fn edge_of_order<L: Library>(tally: &mut Tally, random: &mut Random) {
     let p = primes::LARGEST_MODULUS;
     for (n, number) in [(4096, 0), (4097, 3)] {
         let example = case(p, &random.list(p, 3), &random.list(p, 8), n);
         let value = substitution(p, &example.f, &example.g, n);
         for route in 1..=4 {
-            let (answer, out) = compose(random, route, &example);
+            let (answer, out) = compose::<L>(random, route, &example);
             let found = (answer.number, out == value);
             tally.equal((route, n), found, (number, number == 0));
         }
-        let (answer, out) = reverse(random, p, &[0, 1, 1], n);
+        let (answer, out) = reverse::<L>(random, p, &[0, 1, 1], n);
         let restored = substitution(p, &[0, 1, 1], &out, n) == substitution(p, &[0, 1], &[0, 1], n);
         tally.equal(("reverse", n), (answer.number, restored), (number, number == 0));
-        let (_, answer) = Chain::open(p, n as u64, &mut random.buffer(n));
+        let (_, answer) = L::open(p, n as u64, &mut random.buffer(n));
         tally.equal(("open", n), answer.number, number);
-        let list = vec![0; n];
-        let (found, _) = render::render(0, n as u64, 0, &list, &mut vec![0; 3 * n]);
-        tally.equal(("render", n), found, number);
     }
 }
 
 /// Lists of 4096 places are accepted; work one place short gives 7; coefficient p - 1 is accepted,
 /// p gives 8.
-fn edges_of_lists(tally: &mut Tally, random: &mut Random) {
+fn edges_of_lists<L: Library>(tally: &mut Tally, random: &mut Random) {
     for route in 1..=4 {
         let example = case(7, &random.list(7, 4096), &random.list(7, 4096), 2);
         let value = substitution(7, &example.f, &example.g, 2);
-        let (answer, out) = compose(random, route, &example);
+        let (answer, out) = compose::<L>(random, route, &example);
         tally.equal((route, "lists of 4096"), (answer.number, out), (0, value));
     }
     let (f, g) = ([6, 6, 6], [6, 6]);
     for (missing, number) in [(0, 0), (1, 7)] {
         let mut work = random.buffer(128 * 4 + 8 * 3 - missing);
-        let found = calls::compose(1, 7, 4, &f, &g, &mut [0; 4], &mut work).number;
+        let found = L::compose(1, 7, 4, &f, &g, &mut [0; 4], &mut work).number;
         tally.equal((missing, "places of work missing"), found, number);
     }
     for (f, g) in [([6, 7], [6, 6]), ([6, 6], [7, 6])] {
         let example = case(7, &f, &g, 4);
-        let (answer, _) = compose(random, 1, &example);
+        let (answer, _) = compose::<L>(random, 1, &example);
         tally.equal(&example, answer.number, 8);
     }
 }
 
 /// Cycle 64 is accepted and the next gives 11.
-fn edge_of_cycles(tally: &mut Tally, random: &mut Random) {
+fn edge_of_cycles<L: Library>(tally: &mut Tally, random: &mut Random) {
     let mut running = random.buffer(5);
-    let (mut chain, _) = Chain::open(7, 5, &mut running);
+    let (mut chain, _) = L::open(7, 5, &mut running);
     for cycle in 1..=65 {
         let number = if cycle <= 64 { 0 } else { 11 };
         let mut work = random.buffer(refusals::cycle_work_places(5, 3) as usize);
-        let (next, answer) = chain.cycle(random.route(), &[0, 1, 1], &mut running, &mut work);
+        let (next, answer) = L::cycle(chain, random.route(), &[0, 1, 1], &mut running, &mut work);
         tally.equal(("cycle", cycle), (answer.number, next.done), (number, cycle.min(64)));
         chain = next;
     }

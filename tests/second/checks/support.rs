@@ -1,7 +1,8 @@
-//! What the checks share: the tally, the run of all groups, cases drawn at random, all short lists, multiples of powers
-//! of (z - c), and calls with dirty buffers.
+//! What the checks share: the tally, the run of all groups, cases drawn at random, all short lists,
+//! multiples of powers of (z - c), and calls with dirty buffers.
 
-use crate::plain::calls::{self, Answer};
+use super::library::Library;
+use crate::plain::calls::Answer;
 use crate::plain::random::Random;
 use crate::plain::substitution::substitution;
 use crate::plain::{field, primes, products, refusals, weights};
@@ -34,6 +35,11 @@ impl Tally {
             println!("failed: {input:?}\n  found  {found:?}\n  wanted {wanted:?}");
         }
     }
+}
+
+/// Counts a comparison that there were such cases.
+pub fn seen(tally: &mut Tally, what: &str, cases: usize) {
+    tally.equal((what, cases, "cases"), cases > 0, true);
 }
 
 /// A group of comparisons.
@@ -128,18 +134,18 @@ pub fn weight(route: u64, p: u64, m: usize, n: usize) -> u64 {
 }
 
 /// Compose with dirty buffers of the sizes required.
-pub fn compose(random: &mut Random, route: u64, case: &Case) -> (Answer, Vec<u32>) {
+pub fn compose<L: Library>(random: &mut Random, route: u64, case: &Case) -> (Answer, Vec<u32>) {
     let n = case.n as u64;
     let mut out = random.buffer(case.n);
     let mut work = random.buffer(refusals::work_places(n, case.f.len()) as usize);
-    let answer = calls::compose(route, case.p, n, &case.f, &case.g, &mut out, &mut work);
+    let answer = L::compose(route, case.p, n, &case.f, &case.g, &mut out, &mut work);
     (answer, out)
 }
 
 /// Reverse with dirty buffers of the sizes required.
-pub fn reverse(random: &mut Random, p: u64, g: &[u32], n: usize) -> (Answer, Vec<u32>) {
+pub fn reverse<L: Library>(random: &mut Random, p: u64, g: &[u32], n: usize) -> (Answer, Vec<u32>) {
     let mut out = random.buffer(n);
     let mut work = random.buffer(refusals::work_places(n as u64, g.len()) as usize);
-    let answer = calls::reverse(p, n as u64, g, &mut out, &mut work);
+    let answer = L::reverse(p, n as u64, g, &mut out, &mut work);
     (answer, out)
 }

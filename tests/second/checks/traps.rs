@@ -1,8 +1,9 @@
 //! The traps of the subject. Each check shows the right answer beside the one that the mistaken
 //! reading gives, and that the two differ.
 
+use super::library::{Library, Plain};
 use super::reversion::reversible;
-use super::support::{add_power, compose, reverse, Case, Tally};
+use super::support::{add_power, compose, reverse, seen, Case, Tally};
 use crate::plain::products::{places, product, spread, sum};
 use crate::plain::random::Random;
 use crate::plain::routes::mirror;
@@ -11,20 +12,15 @@ use crate::plain::{field, taylor};
 
 const CASES: usize = 200;
 
-/// Counts a comparison that the mistaken reading was seen to differ in some cases.
-pub fn seen(tally: &mut Tally, what: &str, cases: usize) {
-    tally.equal((what, cases, "cases"), cases > 0, true);
-}
-
 /// Lagrange's formula: k·h_k is coefficient k - 1 of (x/g)^k. Where p divides k it says 0 = 0 and
 /// leaves h_k open.
-pub fn lagrange(tally: &mut Tally, random: &mut Random) {
+pub fn lagrange<L: Library>(tally: &mut Tally, random: &mut Random) {
     let mut open = 0;
     for p in [2, 3, 5, 7, 11, 13] {
         let n = p as usize + 3;
         for _ in 0..CASES / 10 {
             let g = reversible(random, p, n);
-            let (_, h) = reverse(random, p, &g, n);
+            let (_, h) = reverse::<L>(random, p, &g, n);
             let reciprocal = x_over(p, &g, n);
             for (k, &coefficient) in h.iter().enumerate().skip(1) {
                 let monomial = [vec![0; k], vec![1]].concat();
@@ -58,7 +54,7 @@ pub fn outer_cut(tally: &mut Tally, random: &mut Random) {
         let value = substitution(case.p, &case.f, &case.g, case.n);
         let cut = substitution(case.p, &case.f[..case.n], &case.g, case.n);
         for route in 1..=4 {
-            let (_, out) = compose(random, route, &case);
+            let (_, out) = compose::<Plain>(random, route, &case);
             tally.equal((route, &case), &out, &value);
         }
         different += usize::from(value != cut);
@@ -74,7 +70,7 @@ pub fn order_rounded_down(tally: &mut Tally, random: &mut Random) {
         case.p = random.pick(&[2, 3, 5]);
         case.f = random.list(case.p, case.f.len());
         case.g = random.list(case.p, case.g.len());
-        let (_, out) = compose(random, 3, &case);
+        let (_, out) = compose::<Plain>(random, 3, &case);
         let p = case.p as usize;
         tally.equal(&case, &out, &joined_parts(&case, case.n.div_ceil(p)));
         different += usize::from(out != joined_parts(&case, case.n / p));
@@ -105,7 +101,7 @@ pub fn window_fixed(tally: &mut Tally, random: &mut Random) {
         let m = random.count(2, 9);
         case.f = random.list(case.p, m);
         let (deeper, needed) = one_level_down(&case);
-        let (_, out) = compose(random, 4, &case);
+        let (_, out) = compose::<Plain>(random, 4, &case);
         tally.equal(&case, sum(case.p, &out, &needed), deeper.clone());
         different += usize::from(out != deeper);
     }
@@ -142,8 +138,9 @@ pub fn constant_term_counted(tally: &mut Tally, random: &mut Random) {
         let deciding = |list: &[u32]| taylor::deciding_coefficients(p, list, &g, n);
         tally.equal((p, n, &g, &f, &other), deciding(&f), deciding(&other));
         let route = random.route();
-        let (_, first) = compose(random, route, &Case { p, n, f, g: g.clone() });
-        let (_, second) = compose(random, 5 - route, &Case { p, n, f: other, g: g.clone() });
+        let (_, first) = compose::<Plain>(random, route, &Case { p, n, f, g: g.clone() });
+        let (_, second) =
+            compose::<Plain>(random, 5 - route, &Case { p, n, f: other, g: g.clone() });
         tally.equal((p, n, &g), first, second);
     }
 }

@@ -55,7 +55,7 @@ returns-2 c =
     let tested = run .before .before in
     let args = begin tested .args in
     compose-accepted (args .f .now) (args .g .now) (args .out .now) (args .work .now) (tested .before .compose .ensures) (tested .if1 .left)
-    (bounds tested .output) (run .run .ensures) (rw (finish .before .before .before .work-places .ensures) at (finish .finish .ensures))
+    (bounds tested .output) (run .run .ensures) (finish .before .before .before .work-places .ensures) (finish .finish .ensures)
 
 pub compose-spec : {M : Type 1} → statement M
 compose-spec =

@@ -1,5 +1,6 @@
 -- `compose::run` meets its contract. Assumes nothing.
 use borrow.Author.Needs.{needs}
+use native.Mathlib.Omega.{arith}
 use Rattle.compose.specs.Numbers.{weight-1, weight-2, weight-3, weight-4}
 use Rattle.compose.proofs.run.Statement.{statement}
 use Rattle.compose.proofs.run.Tie as tie
@@ -11,7 +12,7 @@ same-length : tie.Need-same-length
 same-length c = search needs
 
 returns : tie.Need-returns
-returns c = rw (weight-1 _ _ _ (c .before .before .before .before .if1 .taken)) (c .before .before .horner .ensures)
+returns c = rw (weight-1 {route = c .before .before .before .before .before .before .before .before .args .route} _ _ _ (omega (arith, c .before .before .before .before .if1 .taken))) (c .before .before .horner .ensures)
 
 ranged-requires : tie.Need-ranged-requires
 ranged-requires c κs = c .before .before .before .before .before .before .pre .0
@@ -20,7 +21,7 @@ same-length-2 : tie.Need-same-length-2
 same-length-2 c = search needs
 
 returns-2 : tie.Need-returns-2
-returns-2 c = rw (weight-2 _ _ _ (c .before .before .before .before .if2 .taken)) (c .before .before .ranged .ensures)
+returns-2 c = rw (weight-2 {route = c .before .before .before .before .before .before .before .before .before .args .route} _ _ _ (omega (arith, c .before .before .before .before .if2 .taken))) (c .before .before .ranged .ensures)
 
 bernstein-requires : tie.Need-bernstein-requires
 bernstein-requires c κs = c .before .before .before .before .before .before .before .pre
@@ -29,7 +30,7 @@ same-length-3 : tie.Need-same-length-3
 same-length-3 c = search needs
 
 returns-3 : tie.Need-returns-3
-returns-3 c = rw (weight-3 _ _ _ (c .before .before .before .before .if3 .taken)) (c .before .before .bernstein .ensures)
+returns-3 c = rw (weight-3 {route = c .before .before .before .before .before .before .before .before .before .before .args .route} _ _ _ (omega (arith, c .before .before .before .before .if3 .taken))) (c .before .before .bernstein .ensures)
 
 kinoshita-li-requires : tie.Need-kinoshita-li-requires
 kinoshita-li-requires c κs = c .before .before .before .before .before .before .before .pre .0

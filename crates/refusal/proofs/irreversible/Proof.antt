@@ -22,7 +22,9 @@ place-requires-2 c κs = search needs
 
 returns-3 : tie.Need-returns-3
 unfolding irreversible
-returns-3 c = rw (c .place2 .ensures, eq-eqb _ 0 (sym (c .before .before .before .place .ensures) ∙ c .before .before .if1 .left), lt-ltb 1 _ (c .before .if2 .left))
+returns-3 c =
+    let one = c .before .before in
+    rw (c .place2 .ensures, eq-eqb _ 0 (sym (one .before .place .ensures) ∙ one .if1 .left), lt-ltb 1 _ (c .before .if2 .left))
 
 pub irreversible-spec : {M : Type 1} → statement M
 irreversible-spec =

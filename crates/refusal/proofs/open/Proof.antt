@@ -17,15 +17,28 @@ bad-order-requires c κs = search needs
 
 returns-2 : tie.Need-returns-2
 unfolding openRefusal
-returns-2 c = passes _ _ (told (c .before .before .before .bad-modulus .ensures) (c .before .before .if1 .left)) (fires _ _ (told (c .before .bad-order .ensures) (c .if2 .taken)))
+returns-2 c =
+    let one = c .before .before in
+    passes _ _ (told (one .before .bad-modulus .ensures) (one .if1 .left))
+    (fires _ _ (told (c .before .bad-order .ensures) (c .if2 .taken)))
 
 returns-3 : tie.Need-returns-3
 unfolding openRefusal
-returns-3 c = passes _ _ (told (c .before .before .before .before .bad-modulus .ensures) (c .before .before .before .if1 .left)) (passes _ _ (told (c .before .before .bad-order .ensures) (c .before .if2 .left)) (fires _ _ (other-places _ _ (c .if3 .taken))))
+returns-3 c =
+    let two = c .before in
+    let one = two .before .before in
+    passes _ _ (told (one .before .bad-modulus .ensures) (one .if1 .left))
+    (passes _ _ (told (two .before .bad-order .ensures) (two .if2 .left))
+    (fires _ _ (other-places _ _ (c .if3 .taken))))
 
 returns-4 : tie.Need-returns-4
 unfolding openRefusal
-returns-4 c = passes _ _ (told (c .before .before .before .before .bad-modulus .ensures) (c .before .before .before .if1 .left)) (passes _ _ (told (c .before .before .bad-order .ensures) (c .before .if2 .left)) (passes _ _ (equal-places _ _ (c .if3 .left)) no-test))
+returns-4 c =
+    let two = c .before in
+    let one = two .before .before in
+    passes _ _ (told (one .before .bad-modulus .ensures) (one .if1 .left))
+    (passes _ _ (told (two .before .bad-order .ensures) (two .if2 .left))
+    (passes _ _ (equal-places _ _ (c .if3 .left)) no-test))
 
 pub open-spec : {M : Type 1} → statement M
 open-spec =

@@ -51,9 +51,9 @@ finish-requires c κs =
 abbrev tested : tie.After-struct-known → tie.Else1
 tested c = c .before .before .before .before .before .before .before .before .before .before .before .before .before .before
 
-add-t27 : tie.Need-add-t27
+add-self : tie.Need-add-self
 unfolding mostCycles
-add-t27 c = omega (arith, bounds (tested c) .not-full)
+add-self c = omega (arith, bounds (tested c) .not-full)
 
 same-length-2 : tie.Need-same-length-2
 same-length-2 c = search needs
@@ -68,7 +68,7 @@ returns-2 c =
     let run = places .before .before .before in
     let args = begin (tested c) .args in
     cycle-accepted (args .list .now) (args .running .now) (args .work .now) (tested c .before .cycle .ensures) (tested c .if1 .left)
-    (bounds (tested c) .running) (run .run .ensures) (rw (places .cycle-places .ensures) at (finish .finish .ensures))
+    (bounds (tested c) .running) (run .run .ensures) (places .cycle-places .ensures) (finish .finish .ensures)
 
 pub cycle-spec : {M : Type 1} → statement M
 cycle-spec =
@@ -80,7 +80,7 @@ cycle-spec =
     run-requires
     cycle-places-requires
     finish-requires
-    add-t27
+    add-self
     same-length-2
     same-length-3
     returns-2)

@@ -2,9 +2,9 @@
 //! mistaken reading gives.
 
 use crate::checks::reversion::{identity, reversible};
-use crate::checks::support::{add_power, weight, Case, Tally};
-use crate::checks::traps::{joined_parts, one_level_down, seen};
-use crate::compare::compare;
+use crate::checks::support::{add_power, seen, weight, Case, Tally};
+use crate::checks::traps::{joined_parts, one_level_down};
+use crate::compare::composed;
 use crate::plain::field;
 use crate::plain::random::Random;
 use crate::plain::reversion::reverse;
@@ -16,7 +16,7 @@ const CASES: usize = 200;
 fn answer(tally: &mut Tally, random: &mut Random, number: u64, case: &Case) -> Vec<u32> {
     let Case { p, n, f, g } = case;
     let value = substitution(*p, f, g, *n);
-    compare(tally, random, number, case, &value, weight(number, *p, f.len(), *n))
+    composed(tally, random, number, case, &value, weight(number, *p, f.len(), *n))
 }
 
 /// Cutting f to n terms before composing is wrong when g has a constant term.

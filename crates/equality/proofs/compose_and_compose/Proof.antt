@@ -1,0 +1,35 @@
+-- `equality::compose_and_compose` meets its contract: the claim about any two calls, of what the two calls ensure. Assumes nothing.
+use borrow.Author.Needs.{needs}
+use Rattle.equality.specs.TwoCalls.{compose, two-calls}
+use Rattle.equality.proofs.compose_and_compose.Statement.{statement}
+use Rattle.equality.proofs.compose_and_compose.Tie as tie
+
+compose-requires : tie.Need-compose-requires
+compose-requires c κs = search needs
+
+compose-requires-2 : tie.Need-compose-requires-2
+compose-requires-2 c κs = search needs
+
+same-length : tie.Need-same-length
+same-length c = search needs
+
+same-length-2 : tie.Need-same-length-2
+same-length-2 c = search needs
+
+same-length-3 : tie.Need-same-length-3
+same-length-3 c = search needs
+
+same-length-4 : tie.Need-same-length-4
+same-length-4 c = search needs
+
+returns : tie.Need-returns
+returns c =
+    let after = c .before .before .before .before in
+    let first = after .before .before .before .before .before .before .before .compose .ensures in
+    let second = after .compose2 .ensures in
+    (first, (second, two-calls (compose first) (compose second)))
+
+pub compose-and-compose-spec : {M : Type 1} → statement M
+compose-and-compose-spec =
+    tie.close
+    (tie.spec compose-requires compose-requires-2 same-length same-length-2 same-length-3 same-length-4 returns)

@@ -1,0 +1,119 @@
+//! Calls of the linked library, compared to the last place: number, weight, chain record, output
+//! and every place of the work buffer. The buffers are dirty before, and the work buffer is of the
+//! length needed or longer.
+
+use crate::checks::library::{Call, Input, Left, Library, Plain};
+use crate::checks::support::{Case, Tally};
+use crate::linked::Linked;
+use crate::plain::calls::Answer;
+use crate::plain::chain::Chain;
+use crate::plain::random::Random;
+
+/// An accepted call with this output and this weight. Gives back the output.
+fn accepted(
+    tally: &mut Tally,
+    random: &mut Random,
+    call: Call,
+    mut input: Input,
+    value: &[u32],
+    weight: u64,
+) -> Vec<u32> {
+    input.lend(random, call);
+    let left = call.make::<Linked>(&input);
+    let out = left.out.clone();
+    tally.equal((call, &input), left, call.accepted(&input, value.to_vec(), weight));
+    out
+}
+
+/// An accepted compose by this route.
+pub fn composed(
+    tally: &mut Tally,
+    random: &mut Random,
+    route: u64,
+    case: &Case,
+    value: &[u32],
+    weight: u64,
+) -> Vec<u32> {
+    let Case { p, n, f, g } = case;
+    let (outer, inner, out) = (f.clone(), g.clone(), random.buffer(*n));
+    let input = Input { route, p: *p, n: *n as u64, outer, inner, out, ..Input::default() };
+    accepted(tally, random, Call::Compose, input, value, weight)
+}
+
+/// An accepted reverse.
+pub fn reversed(
+    tally: &mut Tally,
+    random: &mut Random,
+    p: u64,
+    n: usize,
+    g: &[u32],
+    value: &[u32],
+) -> Vec<u32> {
+    let (inner, out) = (g.to_vec(), random.buffer(n));
+    let input = Input { p, n: n as u64, inner, out, ..Input::default() };
+    accepted(tally, random, Call::Reverse, input, value, 0)
+}
+
+/// Any call, against the second implementation; it is answered by this number, and a refused one
+/// leaves all as it was. Gives back what it left.
+pub fn same(tally: &mut Tally, call: Call, input: &Input, number: u32) -> Left {
+    let (left, wanted) = (call.make::<Linked>(input), call.make::<Plain>(input));
+    tally.equal((call, input), &left, &wanted);
+    if number == 0 {
+        tally.equal((call, input), left.answer.number, number);
+    } else {
+        tally.equal((call, input), &left, &call.refused(input, number));
+    }
+    left
+}
+
+/// The linked library for the checks of the second implementation: each call is made of both, and
+/// must leave the same.
+pub struct Both;
+
+impl Library for Both {
+    fn compose(
+        route: u64,
+        p: u64,
+        n: u64,
+        f: &[u32],
+        g: &[u32],
+        out: &mut [u32],
+        work: &mut [u32],
+    ) -> Answer {
+        let (outer, inner) = (f.to_vec(), g.to_vec());
+        let input = Input { route, p, n, outer, inner, ..Input::default() };
+        both(Call::Compose, input, out, work).1
+    }
+
+    fn reverse(p: u64, n: u64, g: &[u32], out: &mut [u32], work: &mut [u32]) -> Answer {
+        let input = Input { p, n, inner: g.to_vec(), ..Input::default() };
+        both(Call::Reverse, input, out, work).1
+    }
+
+    fn open(p: u64, n: u64, running: &mut [u32]) -> (Chain, Answer) {
+        both(Call::Open, Input { p, n, ..Input::default() }, running, &mut [])
+    }
+
+    fn cycle(
+        chain: Chain,
+        route: u64,
+        list: &[u32],
+        running: &mut [u32],
+        work: &mut [u32],
+    ) -> (Chain, Answer) {
+        let Chain { modulus: p, order: n, done } = chain;
+        let input = Input { route, p, n, done, inner: list.to_vec(), ..Input::default() };
+        both(Call::Cycle, input, running, work)
+    }
+}
+
+/// One call of both, with these buffers.
+fn both(call: Call, lists: Input, out: &mut [u32], work: &mut [u32]) -> (Chain, Answer) {
+    let input = Input { out: out.to_vec(), work: work.to_vec(), ..lists };
+    let left = call.make::<Linked>(&input);
+    assert_eq!(left, call.make::<Plain>(&input), "{call:?} {input:?}");
+    out.copy_from_slice(&left.out);
+    work.copy_from_slice(&left.work);
+    (left.chain, left.answer)
+}

@@ -1,0 +1,65 @@
+//! The calls of the proved library, linked as a static library, held against the plain second
+//! implementation: number, weight, chain record, output and the whole work buffer of every call.
+//! The checks that the second implementation makes of itself are made of both. The seed of the
+//! random cases is the first argument.
+
+mod chain;
+#[allow(dead_code)]
+#[path = "../second/checks/mod.rs"]
+mod checks;
+mod compare;
+mod linked;
+#[allow(dead_code)]
+#[path = "../second/plain/mod.rs"]
+mod plain;
+mod published;
+mod refusals;
+mod reverse;
+mod shapes;
+mod traps;
+
+use checks::support::{run, Check};
+use checks::{calls, equality, reversion, settled};
+use compare::Both;
+use std::process::ExitCode;
+
+const GROUPS: [(&str, Check); 34] = [
+    ("settled examples", settled::examples::<Both>),
+    ("edges", settled::edges::<Both>),
+    ("every small shape", shapes::every_small),
+    ("random shapes up to 300", shapes::random),
+    ("order 4096, short outer lists", shapes::largest_order),
+    ("outer lists of 4096 places, small orders", shapes::longest_outer_list),
+    ("order 4096 and 4096 places, route 4", shapes::largest_of_both),
+    ("largest prime, largest coefficients", shapes::largest_coefficients),
+    ("trap: f cut to n terms", traps::outer_cut),
+    ("trap: order rounded down", traps::order_rounded_down),
+    ("trap: d fixed", traps::window_fixed),
+    ("trap: Lagrange's formula", traps::lagrange),
+    ("trap: Lagrange's formula, reverse", checks::traps::lagrange::<Both>),
+    ("trap: constant term counted in v", traps::constant_term_counted),
+    ("refusals and buffers", calls::refusals_and_buffers::<Both>),
+    ("precedence of refusals", calls::precedence::<Both>),
+    ("edges: compose", refusals::compose),
+    ("edges: reverse", refusals::reverse),
+    ("edges: open", refusals::open),
+    ("edges: cycle", refusals::cycle),
+    ("reverse: every short series", reverse::exhaustive),
+    ("reverse: both sides", reversion::both_sides::<Both>),
+    ("reverse: search through all h", reversion::exhaustive::<Both>),
+    ("reverse: every order", reverse::orders),
+    ("reverse: random series up to 300", reverse::random_series),
+    ("reverse: order 4096", reverse::largest_order),
+    ("reverse: order 4096 and 4096 places", reverse::largest_of_both),
+    ("reverse: published toy example", published::toy_example),
+    ("reverse: published binomial case", published::binomial_case),
+    ("chain: composition of all cycles", checks::chain::composition::<Both>),
+    ("chain: larger orders", chain::larger_orders),
+    ("chain: order 4096", chain::largest_order),
+    ("equality: random pairs", equality::random_pairs::<Both>),
+    ("equality: exhaustive pairs", equality::exhaustive_pairs::<Both>),
+];
+
+fn main() -> ExitCode {
+    run(&GROUPS)
+}
