@@ -4,7 +4,7 @@
 --   reverse-iteration  an accepted call may begin the iteration
 --   reverse-accepted   an accepted call
 -- Assumes nothing.
-use Prim.Native.Nat.{ℕ, zero, suc}
+use Prim.Native.Nat.{ℕ}
 use native.Mathlib.Omega.{arith}
 use lib.ListN.{length}
 use mathlib.Core.List.{List}
@@ -13,19 +13,15 @@ use mathlib.Core.Path.{_≡_, refl, sym, ap, _∙_}
 use Rattle.algebra.specs.Inverse.{reversion-none, reversion-symmetric, reversion-unique}
 use Rattle.algebra.specs.Lists.{length-tabulate}
 use Rattle.algebra.specs.Prime.{prime-positive}
-use Rattle.definition.specs.Answer.{cleared, kept}
+use Rattle.definition.specs.Answer.{cleared}
 use Rattle.definition.specs.Calls.{Reverse}
 use Rattle.definition.specs.Refusal.{composeWork, reverseRefusal}
 use Rattle.definition.specs.Reversion.{Reversion}
+use Rattle.refusal.specs.Answers.{kept-accepted, kept-refused}
 use Rattle.refusal.specs.Bounds.{ReverseBounds, reverse-bounds, reverse-nine}
 use Rattle.reversion.specs.Iteration.{Iterated, Iteration}
 use Rattle.reversion.specs.Start.{started, started-reversion}
 use Rattle.route.specs.Within.{cleared-within}
-
-kept-refused : (number : ℕ) → number ≢ 0 → (new old : List ℕ) → kept number new old ≡ old
-unfolding kept
-kept-refused zero h new old = absurd (h refl)
-kept-refused (suc number) h new old = refl
 
 module _ (p n : ℕ) (g out work : List ℕ) where
   pub reverse-refused : {number : ℕ} → number ≡ reverseRefusal p n g (length out) (length work) → number ≢ 0
@@ -40,7 +36,7 @@ module _ (p n : ℕ) (g out work : List ℕ) where
         let (positive, small, prime, none) = reverse-nine p n g (length out) (length work) (sym e ∙ nine) in
         reversion-none (prime-positive prime) (prime .above-one) n g h positive small none r;
     refused = λ _. refl;
-    clears = sym (kept-refused number refused (cleared (composeWork n (length g)) work) work);
+    clears = sym (kept-refused number _ work refused);
   }
 
   module _ (accepted : reverseRefusal p n g (length out) (length work) ≡ 0) where
@@ -69,7 +65,6 @@ module _ (p n : ℕ) (g out work : List ℕ) where
 
       pub reverse-accepted : {out′ then work′ : List ℕ} {places : ℕ} → Iterated p g out′ (length h) work then
           → places ≡ composeWork n (length g) → work′ ≡ cleared places then → Reverse p n g out out′ work work′ 0 0
-      unfolding kept
       reverse-accepted {out′} iterated counted clear =
           let reversion : Reversion p n g out′ = rw size at (iterated .reverses) in
           let positive = prime-positive (bounds .prime) in
@@ -82,5 +77,5 @@ module _ (p n : ℕ) (g out work : List ℕ) where
             symmetric = λ _. reversion-symmetric positive above n g out′ reversion;
             none = λ nine h r. omega arith;
             refused = λ refused. absurd (refused refl);
-            clears = (rw counted at clear) ∙ cleared-within (rw size at (iterated .within));
+            clears = (rw counted at clear) ∙ cleared-within (rw size at (iterated .within)) ∙ sym (kept-accepted {number = 0} _ work refl);
           }
