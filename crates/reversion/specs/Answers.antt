@@ -13,11 +13,11 @@ use mathlib.Core.Path.{_≡_, refl, sym, ap, _∙_}
 use Rattle.algebra.specs.Inverse.{reversion-none, reversion-symmetric, reversion-unique}
 use Rattle.algebra.specs.Lists.{length-tabulate}
 use Rattle.algebra.specs.Prime.{prime-positive}
-use Rattle.definition.specs.Answer.{cleared, kept}
+use Rattle.definition.specs.Answer.{cleared}
 use Rattle.definition.specs.Calls.{Reverse}
 use Rattle.definition.specs.Refusal.{composeWork, reverseRefusal}
 use Rattle.definition.specs.Reversion.{Reversion}
-use Rattle.refusal.specs.Answers.{kept-refused}
+use Rattle.refusal.specs.Answers.{kept-accepted, kept-refused}
 use Rattle.refusal.specs.Bounds.{ReverseBounds, reverse-bounds, reverse-nine}
 use Rattle.reversion.specs.Iteration.{Iterated, Iteration}
 use Rattle.reversion.specs.Start.{started, started-reversion}
@@ -65,7 +65,6 @@ module _ (p n : ℕ) (g out work : List ℕ) where
 
       pub reverse-accepted : {out′ then work′ : List ℕ} {places : ℕ} → Iterated p g out′ (length h) work then
           → places ≡ composeWork n (length g) → work′ ≡ cleared places then → Reverse p n g out out′ work work′ 0 0
-      unfolding kept
       reverse-accepted {out′} iterated counted clear =
           let reversion : Reversion p n g out′ = rw size at (iterated .reverses) in
           let positive = prime-positive (bounds .prime) in
@@ -78,5 +77,5 @@ module _ (p n : ℕ) (g out work : List ℕ) where
             symmetric = λ _. reversion-symmetric positive above n g out′ reversion;
             none = λ nine h r. omega arith;
             refused = λ refused. absurd (refused refl);
-            clears = (rw counted at clear) ∙ cleared-within (rw size at (iterated .within));
+            clears = (rw counted at clear) ∙ cleared-within (rw size at (iterated .within)) ∙ sym (kept-accepted {number = 0} _ work refl);
           }

@@ -16,6 +16,7 @@ use mathlib.Core.Logic.{inl}
 use mathlib.Core.Path.{_≡_, refl, ap, _∙_}
 use lib.ListN.{length, getD, set, length-set}
 use lib.Seq.{sets, getD-set-other, getD-set-same, getD-take, take-set-lt}
+use Rattle.algebra.specs.Composition.{length-composed}
 use Rattle.algebra.specs.Lists.{coefficient-tabulate, length-tabulate, table-of}
 use Rattle.buffer.specs.Written.{getD-sets-after, sets-whole}
 use Rattle.definition.specs.KinoshitaLi.{negative}
@@ -61,7 +62,7 @@ module _ (p n : ℕ) (g h : List ℕ) where
       v = (coefficient s 1 + negative p 1) % p
 
       size : length s ≡ n
-      size = length-tabulate n (composedAt p g h)
+      size = length-composed p n g h
 
       at : (i : ℕ) → i < n → coefficient (set s 1 v) i ≡ differenceAt p s (identity n) i
       at zero b = getD-set-other s 1 0 v 0 (λ e. omega arith) ∙ kept-place 0 b refl

@@ -4,7 +4,7 @@ use native.Mathlib.Omega.{arith}
 use Prim.Native.Nat.{ℕ}
 use lib.ListN.{length}
 use mathlib.Core.Path.{_≡_, sym, _∙_}
-use Rattle.definition.specs.Refusal.{reverseRefusal}
+use Rattle.definition.specs.Refusal.{composeWork, reverseRefusal}
 use Rattle.refusal.specs.Bounds.{ReverseBounds, reverse-bounds}
 use Rattle.reversion.specs.Answers.{reverse-accepted, reverse-iteration, reverse-refused}
 use Rattle.reversion.proofs.reverse.Statement.{statement}
@@ -17,7 +17,7 @@ returns : tie.Need-returns
 returns c =
     let begin = c .before .before .before .before .before in
     reverse-refused (begin .args .p) (begin .args .n) (begin .args .g .now) (begin .args .out .now) (begin .args .work .now)
-    (c .before .reverse .ensures) (c .if1 .taken)
+    (c .before .reverse .ensures) (λ none. omega arith)
 
 -- an accepted call
 module _ (c : tie.Else1) where
@@ -31,7 +31,9 @@ module _ (c : tie.Else1) where
   work = length (begin .args .work .now)
 
   accepted : reverseRefusal (begin .args .p) (begin .args .n) (begin .args .g .now) places work ≡ 0
-  accepted = sym (c .before .reverse .ensures) ∙ c .if1 .left
+  accepted =
+      let none : c .before .reverse .result ≡ 0 = omega arith in
+      sym (c .before .reverse .ensures) ∙ none
 
   within : ReverseBounds (begin .args .p) (begin .args .n) (begin .args .g .now) places work
   within = reverse-bounds (begin .args .p) (begin .args .n) (begin .args .g .now) places work accepted
@@ -53,6 +55,7 @@ work-places-requires c κs =
     (omega (arith, known .order), known .inner)
 
 clear-requires : tie.Need-clear-requires
+unfolding composeWork
 clear-requires c κs =
     let called = c .before .before .before .before .before .before in
     let known = within (called .before .before .before .before .before .before .before) in
