@@ -4,9 +4,9 @@
 --   Step        Newton's step in the lent buffers
 --   Start       the series with which the iteration begins
 --   Iteration   the loop over the steps
---   Answers     the call as a whole
+--   Answered    what reverse promises, of a refused and of an accepted call
 pub mod Newton
 pub mod Step
 pub mod Start
 pub mod Iteration
-pub mod Answers
+pub mod Answered

@@ -6,7 +6,7 @@ use lib.ListN.{length}
 use mathlib.Core.Path.{_≡_, sym, _∙_}
 use Rattle.definition.specs.Refusal.{composeWork, reverseRefusal}
 use Rattle.refusal.specs.Bounds.{ReverseBounds, reverse-bounds}
-use Rattle.reversion.specs.Answers.{reverse-accepted, reverse-iteration, reverse-refused}
+use Rattle.reversion.specs.Answered.{reverse-accepted, reverse-iteration, reverse-refused}
 use Rattle.reversion.proofs.reverse.Statement.{statement}
 use Rattle.reversion.proofs.reverse.Tie as tie
 

@@ -1,4 +1,4 @@
--- The call as a whole.
+-- What reverse promises, of a refused and of an accepted call.
 --
 --   reverse-refused    a call that is refused
 --   reverse-iteration  an accepted call may begin the iteration
