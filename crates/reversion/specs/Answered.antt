@@ -1,27 +1,40 @@
 -- What reverse promises, of a refused and of an accepted call.
 --
 --   reverse-refused    a call that is refused
---   reverse-iteration  an accepted call may begin the iteration
+--   reverse-reversible an accepted call has what the iteration requires
 --   reverse-accepted   an accepted call
 -- Assumes nothing.
-use Prim.Native.Nat.{ℕ}
+use Prim.Native.Nat.{ℕ, _<_}
+use borrow.Author.Tests.{eqb-false, eqb-true, lt-ltb, not-false}
+use lib.Dec.{eqb, ltb}
+use mathlib.Core.Bool.{false, not, _&&_}
 use native.Mathlib.Omega.{arith}
 use lib.ListN.{length}
 use mathlib.Core.List.{List}
 use mathlib.Core.Logic.{_≢_}
-use mathlib.Core.Path.{_≡_, refl, sym, ap, _∙_}
+use mathlib.Core.Path.{_≡_, refl, sym, _∙_}
 use Rattle.algebra.specs.Inverse.{reversion-none, reversion-symmetric, reversion-unique}
-use Rattle.algebra.specs.Lists.{length-tabulate}
 use Rattle.algebra.specs.Prime.{prime-positive}
 use Rattle.definition.specs.Answer.{cleared}
 use Rattle.definition.specs.Calls.{Reverse}
-use Rattle.definition.specs.Refusal.{composeWork, reverseRefusal}
+use Rattle.definition.specs.Lists.{coefficient}
+use Rattle.definition.specs.Refusal.{composeWork, irreversible, reverseRefusal}
 use Rattle.definition.specs.Reversion.{Reversion}
 use Rattle.refusal.specs.Answers.{kept-accepted, kept-refused}
 use Rattle.refusal.specs.Bounds.{ReverseBounds, reverse-bounds, reverse-nine}
-use Rattle.reversion.specs.Iteration.{Iterated, Iteration}
-use Rattle.reversion.specs.Start.{started, started-reversion}
+use Rattle.refusal.specs.Tests.{either-false}
+use Rattle.reversion.specs.Iteration.{Iterated, Reversible}
 use Rattle.route.specs.Within.{cleared-within}
+
+reversible-constant : (n : ℕ) (g : List ℕ) → irreversible n g ≡ false → coefficient g 0 ≡ 0
+unfolding irreversible
+reversible-constant n g e = eqb-true (coefficient g 0) 0 (not-false _ (either-false _ _ e .0))
+
+reversible-linear : (n : ℕ) (g : List ℕ) → irreversible n g ≡ false → 1 < n → coefficient g 1 ≢ 0
+unfolding irreversible
+reversible-linear n g e several =
+    let neither = either-false (not (eqb (coefficient g 0) 0)) (ltb 1 n && eqb (coefficient g 1) 0) e in
+    eqb-false (coefficient g 1) 0 (rw (lt-ltb 1 n several) at (neither .1))
 
 module _ (p n : ℕ) (g out work : List ℕ) where
   pub reverse-refused : {number : ℕ} → number ≡ reverseRefusal p n g (length out) (length work) → number ≢ 0
@@ -43,39 +56,36 @@ module _ (p n : ℕ) (g out work : List ℕ) where
     bounds : ReverseBounds p n g (length out) (length work)
     bounds = reverse-bounds p n g (length out) (length work) accepted
 
-    module _ {h : List ℕ} (begun : h ≡ started p (length out) g) where
-      size : length h ≡ n
-      unfolding started
-      size = ap length begun ∙ length-tabulate (length out) _ ∙ bounds .output
+    pub reverse-reversible : Reversible p g out work
+    reverse-reversible = record {
+      prime = bounds .prime;
+      below = bounds .below;
+      constant-free = reversible-constant n g (bounds .reversible);
+      linear = λ several. reversible-linear n g (bounds .reversible) (rw (bounds .output) at several);
+      lent = rw (bounds .output) record {
+        modulus = prime-positive (bounds .prime);
+        positive = bounds .positive;
+        order = bounds .order;
+        outer = bounds .inner;
+        enough = bounds .enough;
+      };
+    }
 
-      pub reverse-iteration : Iteration p g h work
-      reverse-iteration = record {
-        above = bounds .prime .above-one;
-        lent = record {
-          modulus = prime-positive (bounds .prime);
-          positive = rw size (bounds .positive);
-          order = rw size (bounds .order);
-          outer = bounds .inner;
-          enough = rw size (bounds .enough);
-        };
-        begun =
-            rw (size, begun, bounds .output)
-            (started-reversion (bounds .prime) n g (bounds .below) (bounds .reversible) (bounds .positive));
-      }
-
-      pub reverse-accepted : {out′ then work′ : List ℕ} {places : ℕ} → Iterated p g out′ (length h) work then
-          → places ≡ composeWork n (length g) → work′ ≡ cleared places then → Reverse p n g out out′ work work′ 0 0
-      reverse-accepted {out′} iterated counted clear =
-          let reversion : Reversion p n g out′ = rw size at (iterated .reverses) in
-          let positive = prime-positive (bounds .prime) in
-          let above = bounds .prime .above-one in
-          record {
-            refusal = sym accepted;
-            weighs = refl;
-            reverses = λ _. reversion;
-            only = λ _ h r. reversion-unique positive above g h out′ r reversion;
-            symmetric = λ _. reversion-symmetric positive above n g out′ reversion;
-            none = λ nine h r. omega arith;
-            refused = λ refused. absurd (refused refl);
-            clears = (rw counted at clear) ∙ cleared-within (rw size at (iterated .within)) ∙ sym (kept-accepted {number = 0} _ work refl);
-          }
+    pub reverse-accepted : {out′ then work′ : List ℕ} {places : ℕ} → Iterated p g (length out) out′ work then
+        → places ≡ composeWork n (length g) → work′ ≡ cleared places then → Reverse p n g out out′ work work′ 0 0
+    reverse-accepted {out′} iterated counted clear =
+        let reversion : Reversion p n g out′ = rw (bounds .output) at (iterated .reverses) in
+        let positive = prime-positive (bounds .prime) in
+        let above = bounds .prime .above-one in
+        record {
+          refusal = sym accepted;
+          weighs = refl;
+          reverses = λ _. reversion;
+          only = λ _ h r. reversion-unique positive above g h out′ r reversion;
+          symmetric = λ _. reversion-symmetric positive above n g out′ reversion;
+          none = λ nine h r. omega arith;
+          refused = λ refused. absurd (refused refl);
+          clears =
+              (rw counted at clear) ∙ cleared-within (rw (bounds .output) at (iterated .within))
+              ∙ sym (kept-accepted {number = 0} _ work refl);
+        }

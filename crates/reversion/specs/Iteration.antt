@@ -1,96 +1,92 @@
--- Newton's iteration: from a reverse series at order 2 to one at order n.
+-- Newton's iteration by recursion on the order: a step takes a reverse series at one order to one at every order below its double.
 --
---   Iteration     what `newton` requires
---   Iterated      the contract of `newton`
---   Reached       before each turn: the first k places are a reverse series at order k
---   step-lent     the places that a step is lent
---   reached-first reached-next reached-last   before the first turn, after one more, and after the last
+--   Reversible       what `newton` requires
+--   Iterated         the contract of `newton`
+--   iterated-start   at order 1 or 2
+--   half-reversible  an order below n, which is more than half of it, has what the iteration requires
+--   step-lent        what the step to n requires after that
+--   iterated-step    and what it leaves
 -- Assumes nothing.
-use Prim.Native.Nat.{ℕ, suc, _*_, _-_, _<_, _≤_, min}
+use Prim.Native.Nat.{ℕ, suc, _*_, _-_, _<_, _≤_}
 use native.Mathlib.Omega.{arith}
+use mathlib.Core.Bool.{false}
 use mathlib.Core.List.{List, _++_}
-use mathlib.Core.Path.{_≡_, refl, ap, _∙_}
+use mathlib.Core.Logic.{_≢_}
+use mathlib.Core.Path.{_≡_, _∙_}
 use lib.ListN.{length, take, drop, length-append, length-drop}
-use lib.Seq.{length-take-le, take-all, take-at, take-take}
-use Rattle.definition.specs.Refusal.{composeWork}
+use lib.Seq.{length-take-le, take-at}
+use Rattle.definition.specs.Lists.{coefficient}
+use Rattle.definition.specs.Prime.{Prime}
+use Rattle.definition.specs.Refusal.{composeWork, exceeds}
 use Rattle.definition.specs.Reversion.{Reversion}
-use Rattle.reversion.specs.Newton.{length-difference, newton-reversion, newtonStep}
+use Rattle.reversion.specs.Newton.{newton-reversion}
+use Rattle.reversion.specs.Start.{started, started-reversion}
 use Rattle.reversion.specs.Step.{Stepped}
 use Rattle.route.specs.Contract.{Lent, lent-places}
 use Rattle.route.specs.Within.{Within, within-refl, within-trans, within-wider}
 
-pub record Iteration (p : ℕ) (g h w : List ℕ) : Type 0 where
-  pub above : 1 < p
+pub record Reversible (p : ℕ) (g h w : List ℕ) : Type 0 where
+  pub prime : Prime p
+  pub below : exceeds p g ≡ false
+  pub constant-free : coefficient g 0 ≡ 0
+  pub linear : 1 < length h → coefficient g 1 ≢ 0
   pub lent : Lent p (length h) (length g) (length w)
-  pub begun : Reversion p (min 2 (length h)) g (take (min 2 (length h)) h)
 
-pub record Iterated (p : ℕ) (g h : List ℕ) (n : ℕ) (before after : List ℕ) : Type 0 where
+pub record Iterated (p : ℕ) (g : List ℕ) (n : ℕ) (h before after : List ℕ) : Type 0 where
   pub reverses : Reversion p n g h
   pub within : Within 0 (composeWork n (length g)) before after
 
-pub record Reached (p : ℕ) (g : List ℕ) (n : ℕ) (h before now : List ℕ) (k : ℕ) : Type 0 where
-  pub few : k ≤ n
-  pub many : min 2 n ≤ k
-  pub size : length h ≡ n
-  pub reverses : Reversion p k g (take k h)
-  pub within : Within 0 (composeWork n (length g)) before now
-
-module _ {p : ℕ} (g h before : List ℕ) (o : Iteration p g h before) where
-  abbrev n : ℕ
-  n = length h
-
-  pub reached-first : Reached p g n h before before (min 2 n)
-  reached-first = record {
-    few = omega arith;
-    many = omega arith;
-    size = refl;
-    reverses = o .begun;
-    within = within-refl 0 _ before;
+module _ {p : ℕ} (g h w : List ℕ) (r : Reversible p g h w) where
+  pub iterated-start : {h′ : List ℕ} → length h ≤ 2 → h′ ≡ started p (length h) g → Iterated p g (length h) h′ w w
+  iterated-start few start = record {
+    reverses = rw start (started-reversion (r .prime) g (r .below) (r .constant-free) (length h) (r .lent .positive) few (r .linear));
+    within = within-refl 0 _ w;
   }
 
-  module _ {v now : List ℕ} {k : ℕ} (reached : Reached p g n v before now k) where
-    pub reached-last : n ≤ k → Iterated p g v n before now
-    reached-last past =
-        let all : k ≡ n = omega (arith, reached .few) in
-        record { reverses = rw (all, take-all n v (omega (arith, reached .size))) at (reached .reverses); within = reached .within }
+  -- an order below n, whose double is above it
+  module _ {half : ℕ} (more : 1 < half) (fits : half < length h) (far : length h < 2 * half) where
+    size-half : length (take half h) ≡ half
+    size-half = length-take-le half h (omega arith)
 
-    -- a step to an order j between k and 2 k
-    module _ {j : ℕ} (further : k < j) (far : j < 2 * k) (fits : j ≤ n) where
-      size-j : length (take j v) ≡ j
-      size-j = length-take-le j v (omega (arith, reached .size))
+    pub half-reversible : Reversible p g (take half h) w
+    unfolding composeWork
+    half-reversible = record {
+      prime = r .prime;
+      below = r .below;
+      constant-free = r .constant-free;
+      linear = λ _. r .linear (omega arith);
+      lent = rw size-half record {
+        modulus = r .lent .modulus;
+        positive = omega arith;
+        order = omega (arith, r .lent .order);
+        outer = r .lent .outer;
+        enough = omega (arith, lent-places (r .lent));
+      };
+    }
 
-      pub step-lent : (1 < length (take j v)) × Lent p (length (take j v)) (length g) (length now)
+    module _ {v now : List ℕ} (iterated : Iterated p g (length (take half h)) v w now) where
+      size-v : length v ≡ half
+      size-v = iterated .reverses .places ∙ size-half
+
+      size : length (v ++ drop half h) ≡ length h
+      size = rw (length-append, size-v, length-drop) (omega arith)
+
+      pub step-lent : (1 < length (v ++ drop half h)) × Lent p (length (v ++ drop half h)) (length g) (length now)
+      step-lent = rw (size, iterated .within .size) (omega arith, r .lent)
+
+      pub iterated-step : {h′ now′ : List ℕ} → Stepped p g (v ++ drop half h) h′ now now′ → Iterated p g (length h) h′ w now′
       unfolding composeWork
-      step-lent = rw size-j (
-        omega arith,
-        record {
-          modulus = o .lent .modulus;
-          positive = omega arith;
-          order = omega (arith, o .lent .order);
-          outer = o .lent .outer;
-          enough = omega (arith, lent-places (o .lent), reached .within .size);
-        },
-      )
-
-      pub reached-next : {v′ now′ : List ℕ} → Stepped p g (take j v) v′ now now′ → Reached p g n (v′ ++ drop j v) before now′ j
-      unfolding composeWork newtonStep
-      reached-next {v′} {now′} stepped = record {
-        few = omega arith;
-        many = omega (arith, reached .many);
-        size = rw (length-append, size-v′, length-drop) (omega (arith, reached .size));
+      iterated-step {h′} stepped = record {
         reverses =
-            rw (take-at v′ (drop j v) j size-v′, value)
-            (newton-reversion (o .lent .modulus) (o .above) j g (take j v) (omega arith) (omega arith) known);
-        within = within-trans (reached .within) (within-wider (omega arith) (rw size-j (omega arith)) (stepped .within));
+            rw ((rw size at (stepped .value)))
+            (newton-reversion (r .lent .modulus) (r .prime .above-one) (length h) g (v ++ drop half h) {k = half - 1}
+            (omega arith) (omega arith) known);
+        within =
+            within-trans (within-wider (omega arith) (rw size-half (omega arith)) (iterated .within))
+            (rw size at (stepped .within));
       }
         where
-          value : v′ ≡ newtonStep p j g (take j v)
-          value = rw size-j at (stepped .value)
-
-          size-v′ : length v′ ≡ j
-          size-v′ = ap length value ∙ length-difference p j _ _
-
-          known : Reversion p (suc (k - 1)) g (take (suc (k - 1)) (take j v))
+          known : Reversion p (suc (half - 1)) g (take (suc (half - 1)) (v ++ drop half h))
           known =
-              let e : suc (k - 1) ≡ k = omega arith in
-              rw (e, take-take k j v (omega arith)) (reached .reverses)
+              let e : suc (half - 1) ≡ half = omega arith in
+              rw (e, take-at v (drop half h) half size-v) (rw size-half at (iterated .reverses))

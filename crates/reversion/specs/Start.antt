@@ -1,19 +1,17 @@
--- The series with which Newton's iteration begins: a reverse series at order 2.
+-- The series with which Newton's iteration begins: a reverse series at order 1 or 2.
 --
 --   startedAt p g       its coefficients: 0, the inverse of g's linear coefficient, zeros
 --   started p n g       these as a list of n places
 --   started-zeros       a buffer of one place, cleared
 --   started-put         a longer one, cleared, with the inverse written
---   started-reversion   the list is a reverse series at order 2, or at order n where that is less
+--   started-reversion   the list of one or two places is a reverse series
 -- Assumes nothing.
-use Prim.Native.Nat.{ℕ, zero, suc, _-_, _%_, _^_, _<_, _≤_, min}
+use Prim.Native.Nat.{ℕ, zero, suc, _-_, _%_, _^_, _<_, _≤_}
 use native.Mathlib.Nat.{mod-eq-of-lt, mod-lt, mul-comm}
 use native.Mathlib.Omega.{arith}
-use borrow.Author.Tests.{eqb-false, eqb-true, lt-ltb, not-false}
-use lib.Dec.{eqb, ltb}
-use lib.ListN.{length, set, take, replicate, length-replicate, length-set, getD-replicate}
-use lib.Seq.{drop-length, getD-set-other, getD-set-same, getD-take, length-take-le}
-use mathlib.Core.Bool.{false, not, _&&_}
+use lib.ListN.{length, set, replicate, length-replicate, length-set, getD-replicate}
+use lib.Seq.{drop-length, getD-set-other, getD-set-same}
+use mathlib.Core.Bool.{false}
 use mathlib.Core.List.{List, append-nil}
 use mathlib.Core.Logic.{_≢_}
 use mathlib.Core.Path.{_≡_, sym, _∙_}
@@ -30,9 +28,8 @@ use Rattle.algebra.specs.Reversion.{Reverse, reverse-below-1, reverse-below-2}
 use Rattle.definition.specs.Answer.{cleared}
 use Rattle.definition.specs.Lists.{coefficient, tabulate}
 use Rattle.definition.specs.Prime.{Prime}
-use Rattle.definition.specs.Refusal.{exceeds, irreversible}
+use Rattle.definition.specs.Refusal.{exceeds}
 use Rattle.definition.specs.Reversion.{Reversion}
-use Rattle.refusal.specs.Tests.{either-false}
 
 unfoldable pub startedAt : ℕ → List ℕ → ℕ → ℕ
 startedAt p g zero = 0
@@ -75,25 +72,9 @@ module _ (p : ℕ) (g h : List ℕ) where
       at (suc zero) b = getD-set-same zeros 1 c 0 (rw length-replicate b) ∙ put
       at (suc (suc i)) b = getD-set-other zeros 1 (suc (suc i)) c 0 (λ z. omega arith) ∙ getD-replicate {A = ℕ} n (suc (suc i)) 0 0 b
 
-take-started : (p n k : ℕ) (g : List ℕ) → k ≤ n → take k (started p n g) ≡ started p k g
-unfolding started coefficient
-take-started p n k g few =
-    table-of k (startedAt p g) (take k (started p n g)) (length-take-le k _ (rw length-tabulate few))
-    (λ i b. getD-take k (started p n g) i 0 b ∙ coefficient-tabulate n (startedAt p g) i (omega arith))
-
 -- the reverse series
 
-reversible-constant : (n : ℕ) (g : List ℕ) → irreversible n g ≡ false → coefficient g 0 ≡ 0
-unfolding irreversible
-reversible-constant n g e = eqb-true (coefficient g 0) 0 (not-false _ (either-false _ _ e .0))
-
-reversible-linear : (n : ℕ) (g : List ℕ) → irreversible n g ≡ false → 1 < n → coefficient g 1 ≢ 0
-unfolding irreversible
-reversible-linear n g e several =
-    let neither = either-false (not (eqb (coefficient g 0) 0)) (ltb 1 n && eqb (coefficient g 1) 0) e in
-    eqb-false (coefficient g 1) 0 (rw (lt-ltb 1 n several) at (neither .1))
-
-module _ {p : ℕ} (P : Prime p) (n : ℕ) (g : List ℕ) (small : exceeds p g ≡ false) (reversible : irreversible n g ≡ false) where
+module _ {p : ℕ} (P : Prime p) (g : List ℕ) (small : exceeds p g ≡ false) (constant-free : coefficient g 0 ≡ 0) where
   l : 0 < p
   l = prime-positive P
 
@@ -127,14 +108,14 @@ module _ {p : ℕ} (P : Prime p) (n : ℕ) (g : List ℕ) (small : exceeds p g �
       (residue-equal l _ 1 .1
       (inverse P (coefficient g 1) (λ e. z (sym (mod-eq-of-lt (below l g small 1)) ∙ e)) ∙ sym (mod-eq-of-lt (P .above-one))))
 
-  at-order : (k : ℕ) → 0 < k → k ≤ 2 → (1 < k → coefficient g 1 ≢ 0) → Reversion p k g (started p k g)
+  pub started-reversion : (k : ℕ) → 0 < k → k ≤ 2 → (1 < k → coefficient g 1 ≢ 0) → Reversion p k g (started p k g)
   unfolding started
-  at-order k b few linear =
+  started-reversion k b few linear =
       reverse-reversion l (P .above-one) g (started p k g) (length-tabulate k _) (started-below k) (started-constant k b)
       (reverse k b few linear)
     where
       g-0 : series-of l g 0 ≡ residues l .𝟘
-      g-0 = series-constant l g (reversible-constant n g reversible)
+      g-0 = series-constant l g constant-free
 
       h-0 : (k : ℕ) → 0 < k → series-of l (started p k g) 0 ≡ residues l .𝟘
       h-0 k b = series-constant l (started p k g) (started-constant k b)
@@ -146,8 +127,3 @@ module _ {p : ℕ} (P : Prime p) (n : ℕ) (g : List ℕ) (small : exceeds p g �
       reverse (suc (suc zero)) b few linear =
           reverse-below-2 (residues l) g-0 (h-0 2 b) (started-linear 2 (omega arith) (linear (omega arith)))
       reverse (suc (suc (suc k))) b few linear = absurd (omega arith)
-
-  pub started-reversion : 0 < n → Reversion p (min 2 n) g (take (min 2 n) (started p n g))
-  started-reversion positive =
-      rw (take-started p n (min 2 n) g (omega arith))
-      (at-order (min 2 n) (omega arith) (omega arith) (λ b. reversible-linear n g reversible (omega arith)))

@@ -6,11 +6,11 @@ use refusal::Answer;
 ghost use mathlib.Core.Path.{_≡_};
 ghost use Prim.Native.Nat.{_<_};
 ghost use Rattle.definition.specs.Calls.{Reverse};
-ghost use Rattle.reversion.specs.Iteration.{Iterated, Iteration};
+ghost use Rattle.reversion.specs.Iteration.{Iterated, Reversible};
 ghost use Rattle.reversion.specs.Start.{started};
 ghost use lib.ListN.{length};
 
-// The reverse series below order 2: 0, the inverse of the linear coefficient of g, and zeros.
+// The reverse series below order 1 or 2: 0, and the inverse of the linear coefficient of g.
 fn start(p: u32, g: &[u32], h: &mut [u32])
     requires { ⌜ (1 < p) × (0 < length (now h)) ⌝ }
     ensures { λ _. ⌜ now (h .exit) ≡ started p (length (now (h .entry))) (now (g .entry)) ⌝ }
@@ -22,17 +22,19 @@ fn start(p: u32, g: &[u32], h: &mut [u32])
     }
 }
 
-// Newton's iteration from a reverse series below order 2 to one below the order n, the count of h: a step takes order k to 2k - 1.
+// The reverse series below the order n, the count of h: from the one below n / 2 + 1, by a step.
 fn newton(p: u32, g: &[u32], h: &mut [u32], w: &mut [u32])
-    requires { ⌜ Iteration p (now g) (now h) (now w) ⌝ }
-    ensures { λ _. ⌜ Iterated p (now (g .entry)) (now (h .exit)) (length (now (h .entry))) (now (w .entry)) (now (w .exit)) ⌝ }
+    requires { ⌜ Reversible p (now g) (now h) (now w) ⌝ }
+    ensures { λ _. ⌜ Iterated p (now (g .entry)) (length (now (h .entry))) (now (h .exit)) (now (w .entry)) (now (w .exit)) ⌝ }
 {
     let n = h.len();
-    let mut k = number::smaller(2, n);
-    while k < n {
-        k = number::smaller(2 * k - 1, n);
-        step::step(p, g, &mut h[..k], w);
+    if n <= 2 {
+        start(p, g, h);
+        return;
     }
+    let half = n / 2 + 1;
+    newton(p, g, &mut h[..half], w);
+    step::step(p, g, h, w);
 }
 
 // The reverse series of g: h without constant term such that g(h) is x modulo x^n, in `out`.
@@ -47,7 +49,6 @@ pub fn reverse(p: u32, n: usize, g: &[u32], out: &mut [u32], work: &mut [u32]) -
             weight: 0,
         };
     }
-    start(p, g, out);
     newton(p, g, out, work);
     buffer::clear(work, route::work_places(n, g.len()));
     Answer {

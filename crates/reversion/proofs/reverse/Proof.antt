@@ -6,7 +6,7 @@ use lib.ListN.{length}
 use mathlib.Core.Path.{_≡_, sym, _∙_}
 use Rattle.definition.specs.Refusal.{composeWork, reverseRefusal}
 use Rattle.refusal.specs.Bounds.{ReverseBounds, reverse-bounds}
-use Rattle.reversion.specs.Answered.{reverse-accepted, reverse-iteration, reverse-refused}
+use Rattle.reversion.specs.Answered.{reverse-accepted, reverse-reversible, reverse-refused}
 use Rattle.reversion.proofs.reverse.Statement.{statement}
 use Rattle.reversion.proofs.reverse.Tie as tie
 
@@ -38,27 +38,23 @@ module _ (c : tie.Else1) where
   within : ReverseBounds (begin .args .p) (begin .args .n) (begin .args .g .now) places work
   within = reverse-bounds (begin .args .p) (begin .args .n) (begin .args .g .now) places work accepted
 
-start-requires : tie.Need-start-requires
-start-requires c κs = let known = within (c .before) in (known .prime .above-one, omega (arith, known .positive, known .output))
-
 newton-requires : tie.Need-newton-requires
 newton-requires c κs =
-    let called = c .before .before .before .before in
-    let branch = called .before .before in
+    let branch = c .before .before in
     let args = begin branch .args in
-    reverse-iteration (args .p) (args .n) (args .g .now) (args .out .now) (args .work .now) (accepted branch) (called .start .ensures)
+    reverse-reversible (args .p) (args .n) (args .g .now) (args .out .now) (args .work .now) (accepted branch)
 
 work-places-requires : tie.Need-work-places-requires
 work-places-requires c κs =
     let called = c .before .before .before .before .before in
-    let known = within (called .before .before .before .before .before .before .before) in
+    let known = within (called .before .before .before) in
     (omega (arith, known .order), known .inner)
 
 clear-requires : tie.Need-clear-requires
 unfolding composeWork
 clear-requires c κs =
     let called = c .before .before .before .before .before .before in
-    let known = within (called .before .before .before .before .before .before .before) in
+    let known = within (called .before .before .before) in
     omega (arith, known .enough, c .work-places .ensures, called .newton .ensures .within .size)
 
 same-length : tie.Need-same-length
@@ -71,23 +67,13 @@ returns-2 : tie.Need-returns-2
 returns-2 c =
     let clear = c .before .before in
     let counted = clear .before in
-    let iterated = counted .before .before .before .before .before .before in
-    let begun = iterated .before .before .before .before .before in
-    let branch = begun .before .before in
+    let called = counted .before .before .before .before .before .before in
+    let branch = called .before .before .before in
     let args = begin branch .args in
-    reverse-accepted (args .p) (args .n) (args .g .now) (args .out .now) (args .work .now) (accepted branch) (begun .start .ensures)
-    (iterated .newton .ensures) (counted .work-places .ensures) (clear .clear .ensures)
+    reverse-accepted (args .p) (args .n) (args .g .now) (args .out .now) (args .work .now) (accepted branch) (called .newton .ensures)
+    (counted .work-places .ensures) (clear .clear .ensures)
 
 pub reverse-spec : {M : Type 1} → statement M
 reverse-spec =
     tie.close
-    (tie.spec
-    reverse-requires
-    returns
-    start-requires
-    newton-requires
-    work-places-requires
-    clear-requires
-    same-length
-    same-length-2
-    returns-2)
+    (tie.spec reverse-requires returns newton-requires work-places-requires clear-requires same-length same-length-2 returns-2)
