@@ -1,18 +1,18 @@
 -- The number of a list of tests, and what each test tells where it does not fire.
 --
 --   fieldTests routedTests   the tests that many calls begin with
---   after earlier ts         the number where tests of the number `earlier` stand before the tests ts
---   told                     one further test, by what a function answers that makes it
+--   after earlier ts         the number of the tests ts where those before them have the number `earlier`
+--   absent r ts              no test of the list has the number r
+--   Passed ts                no test of the list fires
+--   after-earlier after-fired after-passed   one further test: an earlier one fired, or it fires, or it does not
+--   told                     one further test, by what the function answers that makes it
 --   followed                 a list, and then further tests
 --   either                   two tests of one number that follow each other are one
---   after-fired after-passed after-earlier   one further test: it fires, or not, or an earlier one did
---   Passed ts                no test of the list fires
---   absent r ts              no test of the list has the number r
---   passed                   tests that have not the number of the list, and stand before the one that gives it, did not fire
+--   passed                   the first k tests did not fire, where none of them has the number of the list
 --   fired                    a last test whose number is the number of the list fired
 --   factor-fits short-factor short-rest   the test of the places of work, in steps that fit a word
 --   either-false             of two tests that are one, neither fired
---   route-within order-within length-within places-equal constant-zero   what tests tell that did not fire
+--   places-equal route-within order-within length-within constant-zero   what tests tell that did not fire
 -- Assumes nothing.
 use Prim.Native.Nat.{ℕ, zero, suc, _+_, _-_, _*_, _/_, _<_, _≤_}
 use native.Mathlib.Nat.{div-lt-iff-lt-mul, le-div-iff-mul-le, mul-comm}

@@ -18,7 +18,7 @@ use Rattle.definition.specs.Calls.{Reverse}
 use Rattle.definition.specs.Refusal.{composeWork, reverseRefusal}
 use Rattle.definition.specs.Reversion.{Reversion}
 use Rattle.refusal.specs.Answers.{kept-accepted, kept-refused}
-use Rattle.refusal.specs.Bounds.{ReverseBounds, reverse-bounds, reverse-nine}
+use Rattle.refusal.specs.Bounds.{ReverseBounds, field-lent, reverse-bounds, reverse-nine}
 use Rattle.reversion.specs.Iteration.{Iterated, Iteration}
 use Rattle.reversion.specs.Start.{started, started-reversion}
 use Rattle.route.specs.Within.{cleared-within}
@@ -33,8 +33,8 @@ module _ (p n : ℕ) (g out work : List ℕ) where
     only = λ z. absurd (refused z);
     symmetric = λ z. absurd (refused z);
     none = λ nine h r.
-        let (positive, small, prime, none) = reverse-nine p n g (length out) (length work) (sym e ∙ nine) in
-        reversion-none (prime-positive prime) (prime .above-one) n g h positive small none r;
+        let (field, small, none) = reverse-nine p n g (length out) (length work) (sym e ∙ nine) in
+        reversion-none (prime-positive (field .prime)) (field .prime .above-one) n g h (field .positive) small none r;
     refused = λ _. refl;
     clears = sym (kept-refused number _ work refused);
   }
@@ -50,25 +50,19 @@ module _ (p n : ℕ) (g out work : List ℕ) where
 
       pub reverse-iteration : Iteration p g h work
       reverse-iteration = record {
-        above = bounds .prime .above-one;
-        lent = record {
-          modulus = prime-positive (bounds .prime);
-          positive = rw size (bounds .positive);
-          order = rw size (bounds .order);
-          outer = bounds .inner;
-          enough = rw size (bounds .enough);
-        };
+        above = bounds .field .prime .above-one;
+        lent = rw size (field-lent (bounds .field) (bounds .inner) (bounds .enough));
         begun =
             rw (size, begun, bounds .output)
-            (started-reversion (bounds .prime) n g (bounds .below) (bounds .reversible) (bounds .positive));
+            (started-reversion (bounds .field .prime) n g (bounds .below) (bounds .reversible) (bounds .field .positive));
       }
 
       pub reverse-accepted : {out′ then work′ : List ℕ} {places : ℕ} → Iterated p g out′ (length h) work then
           → places ≡ composeWork n (length g) → work′ ≡ cleared places then → Reverse p n g out out′ work work′ 0 0
       reverse-accepted {out′} iterated counted clear =
           let reversion : Reversion p n g out′ = rw size at (iterated .reverses) in
-          let positive = prime-positive (bounds .prime) in
-          let above = bounds .prime .above-one in
+          let positive = prime-positive (bounds .field .prime) in
+          let above = bounds .field .prime .above-one in
           record {
             refusal = sym accepted;
             weighs = refl;

@@ -1,7 +1,7 @@
 -- `refusal::field_number` meets its contract. Assumes nothing.
 use borrow.Author.Needs.{needs}
 use mathlib.Core.Path.{refl}
-use Rattle.definition.specs.Refusal.{first, test}
+use Rattle.definition.specs.Refusal.{test}
 use Rattle.refusal.specs.Tests.{absent, after, followed, told}
 use Rattle.refusal.proofs.field_number.Statement.{statement}
 use Rattle.refusal.proofs.field_number.Tie as tie

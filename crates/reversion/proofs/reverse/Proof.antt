@@ -39,7 +39,7 @@ module _ (c : tie.Else1) where
   within = reverse-bounds (begin .args .p) (begin .args .n) (begin .args .g .now) places work accepted
 
 start-requires : tie.Need-start-requires
-start-requires c κs = let known = within (c .before) in (known .prime .above-one, omega (arith, known .positive, known .output))
+start-requires c κs = let known = within (c .before) in (known .field .prime .above-one, omega (arith, known .field .positive, known .output))
 
 newton-requires : tie.Need-newton-requires
 newton-requires c κs =
@@ -52,7 +52,7 @@ work-places-requires : tie.Need-work-places-requires
 work-places-requires c κs =
     let called = c .before .before .before .before .before in
     let known = within (called .before .before .before .before .before .before .before) in
-    (omega (arith, known .order), known .inner)
+    (known .field .order, known .inner)
 
 clear-requires : tie.Need-clear-requires
 unfolding composeWork
