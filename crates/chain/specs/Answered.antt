@@ -13,7 +13,6 @@ use mathlib.Core.Path.{_≡_, refl, sym, ap, _∙_}
 use lib.ListN.{length}
 use lib.Seq.{sets}
 use Rattle.algebra.specs.Lists.{length-tabulate, tabulate-cong}
-use Rattle.algebra.specs.Prime.{prime-positive}
 use Rattle.buffer.specs.Written.{sets-whole}
 use Rattle.definition.specs.Answer.{cleared}
 use Rattle.definition.specs.Calls.{Cycle, Open}
@@ -24,7 +23,7 @@ use Rattle.definition.specs.Reversion.{identity, identityAt}
 use Rattle.definition.specs.Substitution.{constant}
 use Rattle.definition.specs.Weight.{weight}
 use Rattle.refusal.specs.Answers.{answered-accepted, answered-refused, kept-accepted, kept-refused}
-use Rattle.refusal.specs.Bounds.{CycleBounds}
+use Rattle.refusal.specs.Bounds.{CycleBounds, field-lent}
 use Rattle.route.specs.Contract.{Finished, Lent, Route, route-finished}
 
 coefficient-identity : (k : ℕ) → coefficient (0 ∷ 1 ∷ []) k ≡ identityAt k
@@ -66,13 +65,7 @@ unfolding composeWork cycleWork
 work-within n m = omega arith
 
 pub bounds-lent : {route p n done work : ℕ} {c s : List ℕ} → CycleBounds route p n done c s work → Lent p n (length c) work
-bounds-lent {n = n} {c = c} b = record {
-  modulus = prime-positive (b .prime);
-  positive = b .positive;
-  order = b .order;
-  outer = b .outer;
-  enough = omega (arith, work-within n (length c), b .enough);
-}
+bounds-lent {n = n} {c = c} b = field-lent (b .field) (b .outer) (omega (arith, work-within n (length c), b .enough))
 
 counted-refused : (number done : ℕ) → number ≢ 0 → done ≡ counted number done
 unfolding counted

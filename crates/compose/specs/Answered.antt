@@ -10,23 +10,16 @@ use mathlib.Core.List.{List}
 use mathlib.Core.Logic.{_≢_}
 use mathlib.Core.Path.{_≡_, refl, sym, ap, _∙_}
 use lib.ListN.{length}
-use Rattle.algebra.specs.Prime.{prime-positive}
 use Rattle.definition.specs.Answer.{cleared}
 use Rattle.definition.specs.Calls.{Compose}
 use Rattle.definition.specs.Refusal.{composeRefusal, composeWork}
 use Rattle.definition.specs.Weight.{weight}
 use Rattle.refusal.specs.Answers.{answered-accepted, answered-refused, kept-accepted, kept-refused}
-use Rattle.refusal.specs.Bounds.{ComposeBounds}
+use Rattle.refusal.specs.Bounds.{ComposeBounds, field-lent}
 use Rattle.route.specs.Contract.{Finished, Lent, Route, route-finished}
 
 pub bounds-lent : {route p n places work : ℕ} {f g : List ℕ} → ComposeBounds route p n f g places work → Lent p n (length f) work
-bounds-lent b = record {
-  modulus = prime-positive (b .prime);
-  positive = b .positive;
-  order = b .order;
-  outer = b .outer;
-  enough = b .enough;
-}
+bounds-lent b = field-lent (b .field) (b .outer) (b .enough)
 
 module _ {route p n : ℕ} (f g out work : List ℕ) {number : ℕ} (tested : number ≡ composeRefusal route p n f g (length out) (length work)) where
   pub compose-refused : number ≢ 0 → Compose route p n f g out out work work number 0

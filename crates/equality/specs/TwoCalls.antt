@@ -54,10 +54,10 @@ accepted : {number p n : ℕ} {f g out′ : List ℕ} → Call number p n f g ou
 unfolding kept
 accepted (compose {route} {p} {n} {f = f} {g = g} {out = out} {work = work} q) e =
     let b = compose-bounds route p n f g (length out) (length work) (sym (q .refusal) ∙ e) in
-    record { prime = b .prime; positive = b .positive; small = b .below-inner; answer = rw e at (q .output) }
+    record { prime = b .field .prime; positive = b .field .positive; small = b .below-inner; answer = rw e at (q .output) }
 accepted (cycle {route} {p} {n} {done} {c = c} {s = s} {work = work} q) e =
     let b = cycle-bounds route p n done c s (length work) (sym (q .refusal) ∙ e) in
-    record { prime = b .prime; positive = b .positive; small = b .below-inner; answer = rw e at (q .running) }
+    record { prime = b .field .prime; positive = b .field .positive; small = b .below-inner; answer = rw e at (q .running) }
 
 equal-answers : {p n : ℕ} {f₁ g₁ out₁ f₂ g₂ out₂ : List ℕ} → Accepted p n f₁ g₁ out₁ → Accepted p n f₂ g₂ out₂
     → ((k : ℕ) → k < n → coefficient g₁ k ≡ coefficient g₂ k) → Answers p n f₁ g₁ out₁ f₂ g₂ out₂

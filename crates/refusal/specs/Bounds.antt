@@ -1,5 +1,6 @@
 -- What a number that a call returns tells of what it was handed.
 --
+--   FieldBounds     what every call that has a modulus and an order tells of them; field-lent, it suffices for a route
 --   ComposeBounds ReverseBounds OpenBounds CycleBounds       what holds where a call is accepted
 --   compose-bounds reverse-bounds open-bounds cycle-bounds   number 0 tells that
 --   reverse-nine    what number 9 of reverse tells
@@ -10,29 +11,48 @@ use lib.ListN.{length}
 use mathlib.Core.Bool.{true, false}
 use mathlib.Core.List.{List}
 use mathlib.Core.Path.{_≡_, refl}
+use Rattle.algebra.specs.Prime.{prime-positive}
 use Rattle.definition.specs.Lists.{coefficient}
 use Rattle.definition.specs.Prime.{Prime, largestModulus}
 use Rattle.definition.specs.Refusal.{
+  badModulus,
+  badOrder,
   composeRefusal,
   composeWork,
   cycleRefusal,
   cycleWork,
   exceeds,
+  hasConstant,
   irreversible,
   mostCycles,
   openRefusal,
   reverseRefusal,
+  test,
 }
 use Rattle.field.specs.Opening.{good-modulus}
-use Rattle.refusal.specs.Tests.{constant-zero, either-false, fired, length-within, order-within, passed, places-equal, route-within}
+use Rattle.refusal.specs.Tests.{
+  Passed,
+  absent,
+  constant-zero,
+  either-false,
+  fired,
+  length-within,
+  order-within,
+  passed,
+  places-equal,
+  route-within,
+}
+use Rattle.route.specs.Contract.{Lent}
 
-pub record ComposeBounds (route p n : ℕ) (f g : List ℕ) (places work : ℕ) : Type 0 where
-  pub route-from : 0 < route
-  pub route-to : route ≤ 4
+pub record FieldBounds (p n : ℕ) : Type 0 where
   pub prime : Prime p
   pub largest : p ≤ largestModulus
   pub positive : 0 < n
   pub order : n ≤ 4096
+
+pub record ComposeBounds (route p n : ℕ) (f g : List ℕ) (places work : ℕ) : Type 0 where
+  pub named : (0 < route) × (route ≤ 4)
+  pub field : FieldBounds p n
   pub outer : length f ≤ 4096
   pub inner : length g ≤ 4096
   pub output : places ≡ n
@@ -41,10 +61,7 @@ pub record ComposeBounds (route p n : ℕ) (f g : List ℕ) (places work : ℕ) 
   pub below-inner : exceeds p g ≡ false
 
 pub record ReverseBounds (p n : ℕ) (g : List ℕ) (places work : ℕ) : Type 0 where
-  pub prime : Prime p
-  pub largest : p ≤ largestModulus
-  pub positive : 0 < n
-  pub order : n ≤ 4096
+  pub field : FieldBounds p n
   pub inner : length g ≤ 4096
   pub output : places ≡ n
   pub enough : composeWork n (length g) ≤ work
@@ -52,19 +69,12 @@ pub record ReverseBounds (p n : ℕ) (g : List ℕ) (places work : ℕ) : Type 0
   pub reversible : irreversible n g ≡ false
 
 pub record OpenBounds (p n places : ℕ) : Type 0 where
-  pub prime : Prime p
-  pub largest : p ≤ largestModulus
-  pub positive : 0 < n
-  pub order : n ≤ 4096
+  pub field : FieldBounds p n
   pub output : places ≡ n
 
 pub record CycleBounds (route p n done : ℕ) (c s : List ℕ) (work : ℕ) : Type 0 where
-  pub route-from : 0 < route
-  pub route-to : route ≤ 4
-  pub prime : Prime p
-  pub largest : p ≤ largestModulus
-  pub positive : 0 < n
-  pub order : n ≤ 4096
+  pub named : (0 < route) × (route ≤ 4)
+  pub field : FieldBounds p n
   pub outer : length c ≤ 4096
   pub running : length s ≡ n
   pub enough : cycleWork n (length c) ≤ work
@@ -74,110 +84,82 @@ pub record CycleBounds (route p n done : ℕ) (c s : List ℕ) (work : ℕ) : Ty
   pub running-constant-free : coefficient s 0 ≡ 0
   pub not-full : done < mostCycles
 
+field-bounds : {p n : ℕ} → badModulus p ≡ false → badOrder n ≡ false → FieldBounds p n
+field-bounds {p} {n} modulus order = record {
+  prime = good-modulus p modulus .0;
+  largest = good-modulus p modulus .1;
+  positive = order-within n order .0;
+  order = order-within n order .1;
+}
+
+pub field-lent : {p n m work : ℕ} → FieldBounds p n → m ≤ 4096 → composeWork n m ≤ work → Lent p n m work
+field-lent b outer enough = record {
+  modulus = prime-positive (b .prime);
+  positive = b .positive;
+  order = b .order;
+  outer = outer;
+  enough = enough;
+}
+
 pub compose-bounds : (route p n : ℕ) (f g : List ℕ) (places work : ℕ) → composeRefusal route p n f g places work ≡ 0
     → ComposeBounds route p n f g places work
-unfolding composeRefusal
+unfolding composeRefusal absent Passed test
 compose-bounds route p n f g places work accepted =
-    let one = passed 1 _ _ refl accepted in
-    let two = passed 2 _ _ refl (one .1) in
-    let three = passed 3 _ _ refl (two .1) in
-    let four = passed 4 _ _ refl (three .1) in
-    let five = passed 5 _ _ refl (four .1) in
-    let six = passed 6 _ _ refl (five .1) in
-    let seven = passed 7 _ _ refl (six .1) in
-    let eight = passed 8 _ _ refl (seven .1) in
-    let below = either-false _ _ (eight .0) in
+    let (one, (two, (three, (four, (five, (six, (seven, (eight, _)))))))) = passed 8 _ accepted refl .0 in
+    let below = either-false (exceeds p f) (exceeds p g) eight in
     record {
-      route-from = route-within route (one .0) .0;
-      route-to = route-within route (one .0) .1;
-      prime = good-modulus p (two .0) .0;
-      largest = good-modulus p (two .0) .1;
-      positive = order-within n (three .0) .0;
-      order = order-within n (three .0) .1;
-      outer = length-within f (four .0);
-      inner = length-within g (five .0);
-      output = places-equal n places (six .0);
-      enough = ltb-false work _ (seven .0);
+      named = route-within route one;
+      field = field-bounds two three;
+      outer = length-within f four;
+      inner = length-within g five;
+      output = places-equal n places six;
+      enough = ltb-false work _ seven;
       below-outer = below .0;
       below-inner = below .1;
     }
 
 pub reverse-bounds : (p n : ℕ) (g : List ℕ) (places work : ℕ) → reverseRefusal p n g places work ≡ 0 → ReverseBounds p n g places work
-unfolding reverseRefusal
+unfolding reverseRefusal absent Passed test
 reverse-bounds p n g places work accepted =
-    let two = passed 2 _ _ refl accepted in
-    let three = passed 3 _ _ refl (two .1) in
-    let five = passed 5 _ _ refl (three .1) in
-    let six = passed 6 _ _ refl (five .1) in
-    let seven = passed 7 _ _ refl (six .1) in
-    let eight = passed 8 _ _ refl (seven .1) in
-    let nine = passed 9 _ _ refl (eight .1) in
+    let (two, (three, (five, (six, (seven, (eight, (nine, _))))))) = passed 7 _ accepted refl .0 in
     record {
-      prime = good-modulus p (two .0) .0;
-      largest = good-modulus p (two .0) .1;
-      positive = order-within n (three .0) .0;
-      order = order-within n (three .0) .1;
-      inner = length-within g (five .0);
-      output = places-equal n places (six .0);
-      enough = ltb-false work _ (seven .0);
-      below = eight .0;
-      reversible = nine .0;
+      field = field-bounds two three;
+      inner = length-within g five;
+      output = places-equal n places six;
+      enough = ltb-false work _ seven;
+      below = eight;
+      reversible = nine;
     }
 
 pub reverse-nine : (p n : ℕ) (g : List ℕ) (places work : ℕ) → reverseRefusal p n g places work ≡ 9
-    → (0 < n) × (exceeds p g ≡ false) × Prime p × (irreversible n g ≡ true)
-unfolding reverseRefusal
+    → FieldBounds p n × (exceeds p g ≡ false) × (irreversible n g ≡ true)
+unfolding reverseRefusal absent Passed test
 reverse-nine p n g places work refused =
-    let two = passed 2 _ _ refl refused in
-    let three = passed 3 _ _ refl (two .1) in
-    let five = passed 5 _ _ refl (three .1) in
-    let six = passed 6 _ _ refl (five .1) in
-    let seven = passed 7 _ _ refl (six .1) in
-    let eight = passed 8 _ _ refl (seven .1) in
-    (order-within n (three .0) .0, eight .0, good-modulus p (two .0) .0, fired 9 _ refl (eight .1))
+    let ((two, (three, (five, (six, (seven, (eight, _)))))), nine) = passed 6 _ refused refl in
+    (field-bounds two three, eight, fired 9 _ refl nine)
 
 pub open-bounds : (p n places : ℕ) → openRefusal p n places ≡ 0 → OpenBounds p n places
-unfolding openRefusal
+unfolding openRefusal absent Passed test
 open-bounds p n places accepted =
-    let two = passed 2 _ _ refl accepted in
-    let three = passed 3 _ _ refl (two .1) in
-    let six = passed 6 _ _ refl (three .1) in
-    record {
-      prime = good-modulus p (two .0) .0;
-      largest = good-modulus p (two .0) .1;
-      positive = order-within n (three .0) .0;
-      order = order-within n (three .0) .1;
-      output = places-equal n places (six .0);
-    }
+    let (two, (three, (six, _))) = passed 3 _ accepted refl .0 in
+    record { field = field-bounds two three; output = places-equal n places six }
 
 pub cycle-bounds : (route p n done : ℕ) (c s : List ℕ) (work : ℕ) → cycleRefusal route p n done c s work ≡ 0
     → CycleBounds route p n done c s work
-unfolding cycleRefusal
+unfolding cycleRefusal absent Passed test
 cycle-bounds route p n done c s work accepted =
-    let one = passed 1 _ _ refl accepted in
-    let two = passed 2 _ _ refl (one .1) in
-    let three = passed 3 _ _ refl (two .1) in
-    let five = passed 5 _ _ refl (three .1) in
-    let six = passed 6 _ _ refl (five .1) in
-    let seven = passed 7 _ _ refl (six .1) in
-    let eight = passed 8 _ _ refl (seven .1) in
-    let ten = passed 10 _ _ refl (eight .1) in
-    let eleven = passed 11 _ _ refl (ten .1) in
-    let below = either-false _ _ (eight .0) in
-    let constants = either-false _ _ (ten .0) in
+    let (one, (two, (three, (five, (six, (seven, (eight, (ten, (eleven, _))))))))) = passed 9 _ accepted refl .0 in
+    let below = either-false (exceeds p c) (exceeds p s) eight in
+    let constants = either-false (hasConstant c) (hasConstant s) ten in
     record {
-      route-from = route-within route (one .0) .0;
-      route-to = route-within route (one .0) .1;
-      prime = good-modulus p (two .0) .0;
-      largest = good-modulus p (two .0) .1;
-      positive = order-within n (three .0) .0;
-      order = order-within n (three .0) .1;
-      outer = length-within c (five .0);
-      running = places-equal n (length s) (six .0);
-      enough = ltb-false work _ (seven .0);
+      named = route-within route one;
+      field = field-bounds two three;
+      outer = length-within c five;
+      running = places-equal n (length s) six;
+      enough = ltb-false work _ seven;
       below-outer = below .0;
       below-inner = below .1;
       constant-free = constant-zero c (constants .0);
       running-constant-free = constant-zero s (constants .1);
-      not-full = leb-false mostCycles done (eleven .0);
+      not-full = leb-false mostCycles done eleven;
     }

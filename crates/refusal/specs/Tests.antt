@@ -1,76 +1,130 @@
--- The number of a list of tests, one test at a time, and what each test tells where it does not fire.
+-- The number of a list of tests, and what each test tells where it does not fire.
 --
---   told            what the answer of a function tells of the test that it makes
---   fires passes no-test   the number of a list of tests: its first test fires, or is passed over, or there is none
---   passed          a test whose number is not the number of the list did not fire
---   fired           a last test whose number is the number of the list fired
---   other-places equal-places    the test of a count of places, by the numbers; places-equal, what it tells
---   short-work enough-work       the test of the places of work, by the numbers
---   full not-full                the test of the cycles done, by the numbers
---   either-false    of two tests that are one, neither fired
---   route-within order-within length-within constant-zero   what the tests of a route, an order, a list and a constant term tell
+--   fieldTests routedTests   the tests that many calls begin with
+--   after earlier ts         the number of the tests ts where those before them have the number `earlier`
+--   absent r ts              no test of the list has the number r
+--   Passed ts                no test of the list fires
+--   after-earlier after-fired after-passed   one further test: an earlier one fired, or it fires, or it does not
+--   told                     one further test, by what the function answers that makes it
+--   followed                 a list, and then further tests
+--   either                   two tests of one number that follow each other are one
+--   passed                   the first k tests did not fire, where none of them has the number of the list
+--   fired                    a last test whose number is the number of the list fired
+--   factor-fits short-factor short-rest   the test of the places of work, in steps that fit a word
+--   either-false             of two tests that are one, neither fired
+--   places-equal route-within order-within length-within constant-zero   what tests tell that did not fire
 -- Assumes nothing.
-use Prim.Native.Nat.{ℕ, _<_, _≤_}
+use Prim.Native.Nat.{ℕ, zero, suc, _+_, _-_, _*_, _/_, _<_, _≤_}
+use native.Mathlib.Nat.{div-lt-iff-lt-mul, le-div-iff-mul-le, mul-comm}
 use native.Mathlib.Omega.{arith}
-use borrow.Author.Tests.{eq-eqb, eqb-true, eqb-false, le-leb, le-ltb, lt-leb, lt-ltb, ltb-false, ne-eqb, not-false}
-use lib.Dec.{eqb, leb, ltb}
-use lib.ListN.{length}
-use mathlib.Core.Bool.{Bool, true, false, true≢false, _||_}
-use mathlib.Core.List.{List, [], _∷_}
+use borrow.Author.Tests.{eqb-true, eqb-false, le-ltb, lt-ltb, ltb-false, ltb-true, not-false}
+use lib.Dec.{eqb, ltb}
+use lib.ListN.{length, take, drop}
+use mathlib.Core.Bool.{Bool, true, false, cond, not, true≢false, _&&_, _||_}
+use mathlib.Core.List.{List, [], _∷_, _++_}
+use mathlib.Core.Logic.{_≢_}
 use mathlib.Core.Path.{_≡_, refl, sym, _∙_}
 use Rattle.definition.specs.Lists.{coefficient}
-use Rattle.definition.specs.Refusal.{Test, badOrder, badRoute, first, hasConstant, limit, mostCycles, notPlaces, test, tooLong}
+use Rattle.definition.specs.Refusal.{Test, badModulus, badOrder, badRoute, first, hasConstant, limit, notPlaces, test, tooLong}
 
-pub told : {answer b outcome : Bool} → answer ≡ b → answer ≡ outcome → b ≡ outcome
-told e h = sym e ∙ h
+abbrev pub fieldTests : ℕ → ℕ → List Test
+fieldTests p n = test 2 (badModulus p) ∷ test 3 (badOrder n) ∷ []
 
-pub fires : (n : ℕ) (ts : List Test) {b : Bool} → b ≡ true → n ≡ first (test n b ∷ ts)
-unfolding first test
-fires n ts e = rw e
+abbrev pub routedTests : ℕ → ℕ → ℕ → List Test
+routedTests route p n = test 1 (badRoute route) ∷ fieldTests p n
 
-pub passes : (n : ℕ) (ts : List Test) {r : ℕ} {b : Bool} → b ≡ false → r ≡ first ts → r ≡ first (test n b ∷ ts)
-unfolding first test
-passes n ts e h = rw e h
+unfoldable pub after : ℕ → List Test → ℕ
+after zero ts = first ts
+after (suc earlier) ts = suc earlier
 
-pub no-test : 0 ≡ first []
-unfolding first
-no-test = refl
+unfoldable pub absent : ℕ → List Test → Bool
+absent r [] = true
+absent r (t ∷ ts) = not (eqb (t .number) r) && absent r ts
 
-pub passed : (n : ℕ) (b : Bool) (ts : List Test) {r : ℕ} → eqb n r ≡ false → first (test n b ∷ ts) ≡ r → (b ≡ false) × (first ts ≡ r)
-unfolding first test
-passed n true ts {r} other h = absurd (eqb-false n r other h)
-passed n false ts other h = (refl, h)
+unfoldable pub Passed : List Test → Type 0
+Passed [] = Unit {0}
+Passed (t ∷ ts) = (t .fires ≡ false) × Passed ts
+
+absent-cons : {a b : Bool} → (not a && b) ≡ true → (a ≡ false) × (b ≡ true)
+absent-cons {a = true} h = absurd (true≢false (sym h))
+absent-cons {a = false} h = (refl, h)
+
+pub after-earlier : (earlier : ℕ) (ts : List Test) → earlier ≢ 0 → earlier ≡ after earlier ts
+unfolding after
+after-earlier zero ts h = absurd (h refl)
+after-earlier (suc earlier) ts h = refl
+
+pub after-fired : {earlier : ℕ} (own : ℕ) {b : Bool} → earlier ≡ 0 → b ≡ true → own ≡ after earlier (test own b ∷ [])
+unfolding after first test
+after-fired own z e = rw (z, e)
+
+pub after-passed : {earlier : ℕ} (own : ℕ) {b : Bool} → earlier ≡ 0 → b ≡ false → 0 ≡ after earlier (test own b ∷ [])
+unfolding after first test
+after-passed own z e = rw (z, e)
+
+pub told : (own earlier : ℕ) {answer b : Bool} {r : ℕ} → answer ≡ b → r ≡ after earlier (test own answer ∷ [])
+    → r ≡ after earlier (test own b ∷ [])
+told own earlier e h = rw (← e) h
+
+first-append : (ts us : List Test) → absent 0 ts ≡ true → after (first ts) us ≡ first (ts ++ us)
+unfolding absent after first
+first-append [] us none = refl
+first-append (t ∷ ts) us none =
+    let (other, rest) = absent-cons none in
+    step (t .fires) (eqb-false (t .number) 0 other) (first-append ts us rest)
+  where
+    step : (b : Bool) → t .number ≢ 0 → after (first ts) us ≡ first (ts ++ us)
+        → after (cond b (t .number) (first ts)) us ≡ cond b (t .number) (first (ts ++ us))
+    step true other rest = sym (after-earlier (t .number) us other)
+    step false other rest = rest
+
+pub followed : (ts us : List Test) {earlier r : ℕ} → earlier ≡ first ts → r ≡ after earlier us → absent 0 ts ≡ true → r ≡ first (ts ++ us)
+followed ts us e h none = h ∙ rw e (first-append ts us none)
+
+pub either : (own : ℕ) (a b : Bool) (earlier : ℕ) {k r : ℕ} → k ≡ after earlier (test own a ∷ []) → r ≡ after k (test own b ∷ []) → own ≢ 0
+    → r ≡ after earlier (test own (a || b) ∷ [])
+unfolding after first test
+either own a b (suc earlier) h g other = rw h at g
+either own true b zero h g other = (rw h at g) ∙ sym (after-earlier own (test own b ∷ []) other)
+either own false b zero h g other = rw h at g
+
+pub passed : (k : ℕ) (ts : List Test) {r : ℕ} → first ts ≡ r → absent r (take k ts) ≡ true → Passed (take k ts) × (first (drop k ts) ≡ r)
+unfolding absent first Passed
+passed zero ts h none = (tt, h)
+passed (suc k) [] h none = (tt, h)
+passed (suc k) (t ∷ ts) {r} h none =
+    let (other, rest) = absent-cons none in
+    step (t .fires) h (eqb-false (t .number) r other) (λ e. passed k ts e rest)
+  where
+    step : (b : Bool) → cond b (t .number) (first ts) ≡ r → t .number ≢ r → (first ts ≡ r → Passed (take k ts) × (first (drop k ts) ≡ r))
+        → ((b ≡ false) × Passed (take k ts)) × (first (drop k ts) ≡ r)
+    step true h other rest = absurd (other h)
+    step false h other rest = ((refl, rest h .0), rest h .1)
 
 pub fired : (n : ℕ) (b : Bool) → eqb 0 n ≡ false → first (test n b ∷ []) ≡ n → b ≡ true
 unfolding first test
 fired n true positive h = refl
 fired n false positive h = absurd (eqb-false 0 n positive h)
 
-pub other-places : (n places : ℕ) → (places ≡ n → ⊥) → notPlaces n places ≡ true
-unfolding notPlaces
-other-places n places h = rw (ne-eqb places n h)
+module _ (factor n work : ℕ) (positive : 0 < factor) where
+  pub factor-fits : n ≤ work / factor → factor * n ≤ work
+  factor-fits h = rw mul-comm (le-div-iff-mul-le positive .0 h)
 
-pub equal-places : (n places : ℕ) → places ≡ n → notPlaces n places ≡ false
-unfolding notPlaces
-equal-places n places h = rw (eq-eqb places n h)
+  pub short-factor : (m : ℕ) → work / factor < n → ltb work (factor * n + 8 * m) ≡ true
+  short-factor m h =
+      let above : work < factor * n = rw mul-comm (div-lt-iff-lt-mul positive .0 h) in
+      lt-ltb work _ (omega arith)
+
+pub short-rest : (k m work : ℕ) → k ≤ work → ltb ((work - k) / 8) m ≡ ltb work (k + 8 * m)
+short-rest k m work h = go (ltb ((work - k) / 8) m) refl
+  where
+    go : (b : Bool) → ltb ((work - k) / 8) m ≡ b → b ≡ ltb work (k + 8 * m)
+    go true e = sym (lt-ltb work (k + 8 * m) (omega (arith, ltb-true ((work - k) / 8) m e)))
+    go false e = sym (le-ltb work (k + 8 * m) (omega (arith, ltb-false ((work - k) / 8) m e)))
 
 pub places-equal : (n places : ℕ) → notPlaces n places ≡ false → places ≡ n
 unfolding notPlaces
 places-equal n places h = eqb-true places n (not-false _ h)
-
-pub short-work : {needed : ℕ} (work places : ℕ) → places ≡ needed → work < places → ltb work needed ≡ true
-short-work work places e h = lt-ltb work _ (rw (← e) h)
-
-pub enough-work : {needed : ℕ} (work places : ℕ) → places ≡ needed → places ≤ work → ltb work needed ≡ false
-enough-work work places e h = le-ltb work _ (rw (← e) h)
-
-pub full : (done : ℕ) → 64 ≤ done → leb mostCycles done ≡ true
-unfolding mostCycles
-full done h = le-leb 64 done h
-
-pub not-full : (done : ℕ) → done < 64 → leb mostCycles done ≡ false
-unfolding mostCycles
-not-full done h = lt-leb 64 done h
 
 pub either-false : (a b : Bool) → (a || b) ≡ false → (a ≡ false) × (b ≡ false)
 either-false true b h = absurd (true≢false h)

@@ -1,9 +1,11 @@
 // The number that each of the calls compose, reverse, open (of a chain) and cycle returns, and the places of work of a cycle.
 use field::Field;
 use field::Opened;
+ghost use lib.Dec.{ltb};
 ghost use mathlib.Core.Bool.{_||_};
+ghost use mathlib.Core.List.{[], _∷_};
 ghost use mathlib.Core.Path.{_≡_};
-ghost use Prim.Native.Nat.{_≤_};
+ghost use Prim.Native.Nat.{_+_, _*_, _<_, _≤_};
 ghost use Rattle.definition.specs.Refusal.{
   badModulus,
   badOrder,
@@ -12,12 +14,17 @@ ghost use Rattle.definition.specs.Refusal.{
   cycleRefusal,
   cycleWork,
   exceeds,
+  first,
   hasConstant,
   irreversible,
   openRefusal,
   reverseRefusal,
-  tooLong,
+  test,
 };
+ghost use Rattle.refusal.specs.Tests.{after, fieldTests, routedTests};
+
+// The largest order, and the longest list that a call takes.
+const LIMIT: usize = 4096;
 
 // What compose, reverse and a cycle answer.
 #[repr(C)]
@@ -47,25 +54,7 @@ fn bad_modulus(p: u32) -> bool
 fn bad_order(n: usize) -> bool
     ensures { λ r. ⌜ r ≡ badOrder n ⌝ }
 {
-    if n == 0 { true } else { n > 4096 }
-}
-
-// Whether a list is longer than 4096.
-fn too_long(l: &[u32]) -> bool
-    ensures { λ r. ⌜ r ≡ tooLong (now (l .entry)) ⌝ }
-{
-    l.len() > 4096
-}
-
-// Whether a coefficient of one of two lists is p or more.
-fn either_exceeds(p: u32, a: &[u32], b: &[u32]) -> bool
-    ensures { λ r. ⌜ r ≡ (exceeds p (now (a .entry)) || exceeds p (now (b .entry))) ⌝ }
-{
-    if buffer::exceeds(a, p) {
-        true
-    } else {
-        buffer::exceeds(b, p)
-    }
+    if n == 0 { true } else { n > LIMIT }
 }
 
 // Whether g has no reverse series modulo x^n.
@@ -100,6 +89,55 @@ pub fn cycle_places(n: usize, m: usize) -> usize
     144 * n + 8 * m
 }
 
+// Whether `work` is below factor * n + 8m, a number that a word need not hold.
+fn short_work(factor: usize, n: usize, m: usize, work: usize) -> bool
+    requires { ⌜ 0 < factor ⌝ }
+    ensures { λ r. ⌜ r ≡ ltb work (factor * n + 8 * m) ⌝ }
+{
+    if work / factor < n {
+        true
+    } else {
+        (work - factor * n) / 8 < m
+    }
+}
+
+// The number of one more test, which has the number `own`, after tests of the number `earlier`.
+fn next_number(earlier: u32, own: u32, fires: bool) -> u32
+    ensures { λ r. ⌜ r ≡ after earlier (test own fires ∷ []) ⌝ }
+{
+    if earlier != 0 {
+        return earlier;
+    }
+    if fires { own } else { 0 }
+}
+
+// The same of the test 8, which reads a list only where no earlier test fired.
+fn coefficient_number(earlier: u32, p: u32, l: &[u32]) -> u32
+    ensures { λ r. ⌜ r ≡ after earlier (test 8 (exceeds p (now (l .entry))) ∷ []) ⌝ }
+{
+    if earlier != 0 {
+        return earlier;
+    }
+    if buffer::exceeds(l, p) { 8 } else { 0 }
+}
+
+// The number of the tests of modulus and order: 2, 3 or 0.
+fn field_number(p: u32, n: usize) -> u32
+    ensures { λ r. ⌜ r ≡ first (fieldTests p n) ⌝ }
+{
+    next_number(next_number(0, 2, bad_modulus(p)), 3, bad_order(n))
+}
+
+// The number of the tests of route, modulus and order: 1, 2, 3 or 0.
+fn routed_number(route: u32, p: u32, n: usize) -> u32
+    ensures { λ r. ⌜ r ≡ first (routedTests route p n) ⌝ }
+{
+    if bad_route(route) {
+        return 1;
+    }
+    field_number(p, n)
+}
+
 // The number that compose returns for an output of `places` places and `work` places of work.
 pub fn compose(
     route: u32,
@@ -112,107 +150,41 @@ pub fn compose(
 ) -> u32
     ensures { λ r. ⌜ r ≡ composeRefusal route p n (now (f .entry)) (now (g .entry)) places work ⌝ }
 {
-    if bad_route(route) {
-        return 1;
-    }
-    if bad_modulus(p) {
-        return 2;
-    }
-    if bad_order(n) {
-        return 3;
-    }
-    if too_long(f) {
-        return 4;
-    }
-    if too_long(g) {
-        return 5;
-    }
-    if places != n {
-        return 6;
-    }
-    if work < route::work_places(n, f.len()) {
-        return 7;
-    }
-    if either_exceeds(p, f, g) {
-        return 8;
-    }
-    0
+    let number = next_number(routed_number(route, p, n), 4, f.len() > LIMIT);
+    let number = next_number(number, 5, g.len() > LIMIT);
+    let number = next_number(number, 6, places != n);
+    let number = next_number(number, 7, short_work(128, n, f.len(), work));
+    let number = coefficient_number(number, p, f);
+    coefficient_number(number, p, g)
 }
 
 // The number that reverse returns for the series g, an output of `places` places and `work` places of work.
 pub fn reverse(p: u32, n: usize, g: &[u32], places: usize, work: usize) -> u32
     ensures { λ r. ⌜ r ≡ reverseRefusal p n (now (g .entry)) places work ⌝ }
 {
-    if bad_modulus(p) {
-        return 2;
-    }
-    if bad_order(n) {
-        return 3;
-    }
-    if too_long(g) {
-        return 5;
-    }
-    if places != n {
-        return 6;
-    }
-    if work < route::work_places(n, g.len()) {
-        return 7;
-    }
-    if buffer::exceeds(g, p) {
-        return 8;
-    }
-    if irreversible(n, g) {
-        return 9;
-    }
-    0
+    let number = next_number(field_number(p, n), 5, g.len() > LIMIT);
+    let number = next_number(number, 6, places != n);
+    let number = next_number(number, 7, short_work(128, n, g.len(), work));
+    let number = coefficient_number(number, p, g);
+    next_number(number, 9, irreversible(n, g))
 }
 
 // The number that opening a chain returns for a running buffer of `places` places.
 pub fn open(p: u32, n: usize, places: usize) -> u32
     ensures { λ r. ⌜ r ≡ openRefusal p n places ⌝ }
 {
-    if bad_modulus(p) {
-        return 2;
-    }
-    if bad_order(n) {
-        return 3;
-    }
-    if places != n {
-        return 6;
-    }
-    0
+    next_number(field_number(p, n), 6, places != n)
 }
 
 // The number that a cycle with the list c returns, where s is the running series and `done` cycles are done.
 pub fn cycle(route: u32, p: u32, n: usize, done: u32, c: &[u32], s: &[u32], work: usize) -> u32
     ensures { λ r. ⌜ r ≡ cycleRefusal route p n done (now (c .entry)) (now (s .entry)) work ⌝ }
 {
-    if bad_route(route) {
-        return 1;
-    }
-    if bad_modulus(p) {
-        return 2;
-    }
-    if bad_order(n) {
-        return 3;
-    }
-    if too_long(c) {
-        return 5;
-    }
-    if s.len() != n {
-        return 6;
-    }
-    if work < cycle_places(n, c.len()) {
-        return 7;
-    }
-    if either_exceeds(p, c, s) {
-        return 8;
-    }
-    if either_has_constant(c, s) {
-        return 10;
-    }
-    if done >= 64 {
-        return 11;
-    }
-    0
+    let number = next_number(routed_number(route, p, n), 5, c.len() > LIMIT);
+    let number = next_number(number, 6, s.len() != n);
+    let number = next_number(number, 7, short_work(144, n, c.len(), work));
+    let number = coefficient_number(number, p, c);
+    let number = coefficient_number(number, p, s);
+    let number = next_number(number, 10, either_has_constant(c, s));
+    next_number(number, 11, done >= 64)
 }

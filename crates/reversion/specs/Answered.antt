@@ -21,7 +21,7 @@ use Rattle.definition.specs.Lists.{coefficient}
 use Rattle.definition.specs.Refusal.{composeWork, irreversible, reverseRefusal}
 use Rattle.definition.specs.Reversion.{Reversion}
 use Rattle.refusal.specs.Answers.{kept-accepted, kept-refused}
-use Rattle.refusal.specs.Bounds.{ReverseBounds, reverse-bounds, reverse-nine}
+use Rattle.refusal.specs.Bounds.{ReverseBounds, field-lent, reverse-bounds, reverse-nine}
 use Rattle.refusal.specs.Tests.{either-false}
 use Rattle.reversion.specs.Iteration.{Iterated, Reversible}
 use Rattle.route.specs.Within.{cleared-within}
@@ -46,8 +46,8 @@ module _ (p n : ℕ) (g out work : List ℕ) where
     only = λ z. absurd (refused z);
     symmetric = λ z. absurd (refused z);
     none = λ nine h r.
-        let (positive, small, prime, none) = reverse-nine p n g (length out) (length work) (sym e ∙ nine) in
-        reversion-none (prime-positive prime) (prime .above-one) n g h positive small none r;
+        let (field, small, none) = reverse-nine p n g (length out) (length work) (sym e ∙ nine) in
+        reversion-none (prime-positive (field .prime)) (field .prime .above-one) n g h (field .positive) small none r;
     refused = λ _. refl;
     clears = sym (kept-refused number _ work refused);
   }
@@ -58,25 +58,19 @@ module _ (p n : ℕ) (g out work : List ℕ) where
 
     pub reverse-reversible : Reversible p g out work
     reverse-reversible = record {
-      prime = bounds .prime;
+      prime = bounds .field .prime;
       below = bounds .below;
       constant-free = reversible-constant n g (bounds .reversible);
       linear = λ several. reversible-linear n g (bounds .reversible) (rw (bounds .output) at several);
-      lent = rw (bounds .output) record {
-        modulus = prime-positive (bounds .prime);
-        positive = bounds .positive;
-        order = bounds .order;
-        outer = bounds .inner;
-        enough = bounds .enough;
-      };
+      lent = rw (bounds .output) (field-lent (bounds .field) (bounds .inner) (bounds .enough));
     }
 
     pub reverse-accepted : {out′ then work′ : List ℕ} {places : ℕ} → Iterated p g (length out) out′ work then
         → places ≡ composeWork n (length g) → work′ ≡ cleared places then → Reverse p n g out out′ work work′ 0 0
     reverse-accepted {out′} iterated counted clear =
         let reversion : Reversion p n g out′ = rw (bounds .output) at (iterated .reverses) in
-        let positive = prime-positive (bounds .prime) in
-        let above = bounds .prime .above-one in
+        let positive = prime-positive (bounds .field .prime) in
+        let above = bounds .field .prime .above-one in
         record {
           refusal = sym accepted;
           weighs = refl;

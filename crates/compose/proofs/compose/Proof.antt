@@ -28,12 +28,12 @@ module _ (c : tie.Else1) where
   bounds = compose-bounds _ _ _ _ _ _ _ (sym (c .before .compose .ensures) ∙ c .if1 .left)
 
 run-requires : tie.Need-run-requires
-run-requires c κs = (bounds-lent (bounds (c .before)), bounds (c .before) .prime)
+run-requires c κs = (bounds-lent (bounds (c .before)), bounds (c .before) .field .prime)
 
 work-places-requires : tie.Need-work-places-requires
 work-places-requires c κs =
     let b = bounds (c .before .before .before .before) in
-    (b .order, b .outer)
+    (b .field .order, b .outer)
 
 finish-requires : tie.Need-finish-requires
 finish-requires c κs =

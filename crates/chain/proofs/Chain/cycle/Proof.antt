@@ -31,12 +31,12 @@ module _ (c : tie.Else1) where
   bounds = cycle-bounds _ _ _ _ _ _ _ (sym (c .before .cycle .ensures) ∙ c .if1 .left)
 
 run-requires : tie.Need-run-requires
-run-requires c κs = (bounds-lent (bounds (c .before .before)), bounds (c .before .before) .prime)
+run-requires c κs = (bounds-lent (bounds (c .before .before)), bounds (c .before .before) .field .prime)
 
 cycle-places-requires : tie.Need-cycle-places-requires
 cycle-places-requires c κs =
     let b = bounds (c .before .before .before .before .before) in
-    (b .order, b .outer)
+    (b .field .order, b .outer)
 
 finish-requires : tie.Need-finish-requires
 finish-requires c κs =
