@@ -4,7 +4,7 @@
 -- Assumes nothing.
 use Prim.Native.Nat.{ℕ}
 use mathlib.Core.Logic.{_≢_}
-use mathlib.Core.Path.{_≡_, refl}
+use mathlib.Core.Path.{_≡_}
 use borrow.Author.Tests.{ne-eqb}
 use Rattle.definition.specs.Ranged.{blockLength}
 use Rattle.definition.specs.Weight.{bernsteinWeight, hornerWeight, kinoshitaLiWeight, rangedWeight, weight}

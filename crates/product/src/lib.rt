@@ -1,7 +1,7 @@
 // Cut products modulo p, on parts of one lent buffer. Each gives back the number of places that it is cut to.
 ghost use mathlib.Core.Path.{_≡_};
-ghost use Prim.Native.Nat.{_+_, _*_, _%_, _<_, _≤_, _^_};
-ghost use lib.ListN.{length, replicate};
+ghost use Prim.Native.Nat.{_+_, _*_, _%_, _<_, _^_};
+ghost use lib.ListN.{length};
 ghost use lib.Seq.{sets};
 ghost use Rattle.definition.specs.Lists.{coefficient, tabulate};
 ghost use Rattle.definition.specs.Substitution.{product};
