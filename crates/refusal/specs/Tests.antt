@@ -1,7 +1,7 @@
 -- The number of a list of tests, and what each test tells where it does not fire.
 --
 --   fieldTests routedTests   the tests that many calls begin with
---   after earlier ts         the number of the tests ts where those before them have the number `earlier`
+--   numberAfter earlier ts   the number of the tests ts where those before them have the number `earlier`
 --   absent r ts              no test of the list has the number r
 --   Passed ts                no test of the list fires
 --   after-earlier after-fired after-passed   one further test: an earlier one fired, or it fires, or it does not
@@ -33,9 +33,9 @@ fieldTests p n = test 2 (badModulus p) ∷ test 3 (badOrder n) ∷ []
 abbrev pub routedTests : ℕ → ℕ → ℕ → List Test
 routedTests route p n = test 1 (badRoute route) ∷ fieldTests p n
 
-unfoldable pub after : ℕ → List Test → ℕ
-after zero ts = first ts
-after (suc earlier) ts = suc earlier
+unfoldable pub numberAfter : ℕ → List Test → ℕ
+numberAfter zero ts = first ts
+numberAfter (suc earlier) ts = suc earlier
 
 unfoldable pub absent : ℕ → List Test → Bool
 absent r [] = true
@@ -49,41 +49,41 @@ absent-cons : {a b : Bool} → (not a && b) ≡ true → (a ≡ false) × (b ≡
 absent-cons {a = true} h = absurd (true≢false (sym h))
 absent-cons {a = false} h = (refl, h)
 
-pub after-earlier : (earlier : ℕ) (ts : List Test) → earlier ≢ 0 → earlier ≡ after earlier ts
-unfolding after
+pub after-earlier : (earlier : ℕ) (ts : List Test) → earlier ≢ 0 → earlier ≡ numberAfter earlier ts
+unfolding numberAfter
 after-earlier zero ts h = absurd (h refl)
 after-earlier (suc earlier) ts h = refl
 
-pub after-fired : {earlier : ℕ} (own : ℕ) {b : Bool} → earlier ≡ 0 → b ≡ true → own ≡ after earlier (test own b ∷ [])
-unfolding after first test
+pub after-fired : {earlier : ℕ} (own : ℕ) {b : Bool} → earlier ≡ 0 → b ≡ true → own ≡ numberAfter earlier (test own b ∷ [])
+unfolding numberAfter first test
 after-fired own z e = rw (z, e)
 
-pub after-passed : {earlier : ℕ} (own : ℕ) {b : Bool} → earlier ≡ 0 → b ≡ false → 0 ≡ after earlier (test own b ∷ [])
-unfolding after first test
+pub after-passed : {earlier : ℕ} (own : ℕ) {b : Bool} → earlier ≡ 0 → b ≡ false → 0 ≡ numberAfter earlier (test own b ∷ [])
+unfolding numberAfter first test
 after-passed own z e = rw (z, e)
 
-pub told : (own earlier : ℕ) {answer b : Bool} {r : ℕ} → answer ≡ b → r ≡ after earlier (test own answer ∷ [])
-    → r ≡ after earlier (test own b ∷ [])
+pub told : (own earlier : ℕ) {answer b : Bool} {r : ℕ} → answer ≡ b → r ≡ numberAfter earlier (test own answer ∷ [])
+    → r ≡ numberAfter earlier (test own b ∷ [])
 told own earlier e h = rw (← e) h
 
-first-append : (ts us : List Test) → absent 0 ts ≡ true → after (first ts) us ≡ first (ts ++ us)
-unfolding absent after first
+first-append : (ts us : List Test) → absent 0 ts ≡ true → numberAfter (first ts) us ≡ first (ts ++ us)
+unfolding absent numberAfter first
 first-append [] us none = refl
 first-append (t ∷ ts) us none =
     let (other, rest) = absent-cons none in
     step (t .fires) (eqb-false (t .number) 0 other) (first-append ts us rest)
   where
-    step : (b : Bool) → t .number ≢ 0 → after (first ts) us ≡ first (ts ++ us)
-        → after (cond b (t .number) (first ts)) us ≡ cond b (t .number) (first (ts ++ us))
+    step : (b : Bool) → t .number ≢ 0 → numberAfter (first ts) us ≡ first (ts ++ us)
+        → numberAfter (cond b (t .number) (first ts)) us ≡ cond b (t .number) (first (ts ++ us))
     step true other rest = sym (after-earlier (t .number) us other)
     step false other rest = rest
 
-pub followed : (ts us : List Test) {earlier r : ℕ} → earlier ≡ first ts → r ≡ after earlier us → absent 0 ts ≡ true → r ≡ first (ts ++ us)
+pub followed : (ts us : List Test) {earlier r : ℕ} → earlier ≡ first ts → r ≡ numberAfter earlier us → absent 0 ts ≡ true → r ≡ first (ts ++ us)
 followed ts us e h none = h ∙ rw e (first-append ts us none)
 
-pub either : (own : ℕ) (a b : Bool) (earlier : ℕ) {k r : ℕ} → k ≡ after earlier (test own a ∷ []) → r ≡ after k (test own b ∷ []) → own ≢ 0
-    → r ≡ after earlier (test own (a || b) ∷ [])
-unfolding after first test
+pub either : (own : ℕ) (a b : Bool) (earlier : ℕ) {k r : ℕ} → k ≡ numberAfter earlier (test own a ∷ []) → r ≡ numberAfter k (test own b ∷ []) → own ≢ 0
+    → r ≡ numberAfter earlier (test own (a || b) ∷ [])
+unfolding numberAfter first test
 either own a b (suc earlier) h g other = rw h at g
 either own true b zero h g other = (rw h at g) ∙ sym (after-earlier own (test own b ∷ []) other)
 either own false b zero h g other = rw h at g

@@ -21,7 +21,7 @@ ghost use Rattle.definition.specs.Refusal.{
   reverseRefusal,
   test,
 };
-ghost use Rattle.refusal.specs.Tests.{after, fieldTests, routedTests};
+ghost use Rattle.refusal.specs.Tests.{fieldTests, numberAfter, routedTests};
 
 // The largest order, and the longest list that a call takes.
 const LIMIT: usize = 4096;
@@ -103,7 +103,7 @@ fn short_work(factor: usize, n: usize, m: usize, work: usize) -> bool
 
 // The number of one more test, which has the number `own`, after tests of the number `earlier`.
 fn next_number(earlier: u32, own: u32, fires: bool) -> u32
-    ensures { λ r. ⌜ r ≡ after earlier (test own fires ∷ []) ⌝ }
+    ensures { λ r. ⌜ r ≡ numberAfter earlier (test own fires ∷ []) ⌝ }
 {
     if earlier != 0 {
         return earlier;
@@ -113,7 +113,7 @@ fn next_number(earlier: u32, own: u32, fires: bool) -> u32
 
 // The same of the test 8, which reads a list only where no earlier test fired.
 fn coefficient_number(earlier: u32, p: u32, l: &[u32]) -> u32
-    ensures { λ r. ⌜ r ≡ after earlier (test 8 (exceeds p (now (l .entry))) ∷ []) ⌝ }
+    ensures { λ r. ⌜ r ≡ numberAfter earlier (test 8 (exceeds p (now (l .entry))) ∷ []) ⌝ }
 {
     if earlier != 0 {
         return earlier;

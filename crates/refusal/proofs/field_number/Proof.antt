@@ -2,7 +2,7 @@
 use borrow.Author.Needs.{needs}
 use mathlib.Core.Path.{refl}
 use Rattle.definition.specs.Refusal.{test}
-use Rattle.refusal.specs.Tests.{absent, after, followed, told}
+use Rattle.refusal.specs.Tests.{absent, numberAfter, followed, told}
 use Rattle.refusal.proofs.field_number.Statement.{statement}
 use Rattle.refusal.proofs.field_number.Tie as tie
 
@@ -19,7 +19,7 @@ next-number-requires-2 : tie.Need-next-number-requires-2
 next-number-requires-2 c κs = search needs
 
 returns : tie.Need-returns
-unfolding absent after test
+unfolding absent numberAfter test
 returns c =
     let modulus = c .before .before in
     followed _ _ (told 2 0 (modulus .before .bad-modulus .ensures) (modulus .next-number .ensures))
