@@ -1,7 +1,8 @@
-//! Each route of the proved library, and reversion, beside the straightforward code of the second
-//! implementation, both on the same lists in one run. The routes there make the same products with
-//! a remainder after each term; reversion there goes coefficient by coefficient. Printed are the
-//! shortest times and their ratio; below 1 the library is the quicker one.
+//! Each route of the proved library, the opening of a chain and reversion, beside the
+//! straightforward code of the second implementation, both on the same lists in one run. The routes
+//! there make the same products with a remainder after each term; reversion there goes coefficient
+//! by coefficient. An opening is little more than the test of the modulus. Printed are the shortest
+//! times and their ratio; below 1 the library is the quicker one.
 
 #[allow(dead_code)]
 #[path = "../second/checks/mod.rs"]
@@ -12,7 +13,7 @@ mod linked;
 #[path = "../second/plain/mod.rs"]
 mod plain;
 
-use checks::library::Library;
+use checks::library::{Library, Plain};
 use linked::Linked;
 use plain::calls::Answer;
 use plain::random::Random;
@@ -70,6 +71,12 @@ fn main() {
             };
             beside(name, n, call, || routes::by_number(route, P, &f, &g, n));
         }
+        let opened = |out: &mut [u32], _: &mut [u32]| Linked::open(P, n as u64, out).1;
+        beside("opening", n, opened, || {
+            let mut out = vec![0; n];
+            let (_, answer) = Plain::open(P, n as u64, &mut out);
+            (out, answer.weight)
+        });
         let series = [&[0], &g[1..]].concat();
         let call =
             |out: &mut [u32], work: &mut [u32]| Linked::reverse(P, n as u64, &series, out, work);

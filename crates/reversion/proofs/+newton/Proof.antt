@@ -43,7 +43,7 @@ returns : (t : ℕ) → lts.Need-returns (claims t) (operands-at t) reads.Post
 returns t c =
     let test = c .before .before .before .before in
     let begin = test .before .before .before .before in
-    iterated-start (begin .args .g .now) (begin .args .h .now) (begin .args .w .now) (begin .pre .1) (test .if1 .taken)
+    iterated-start (begin .args .g .now) (begin .args .h .now) (begin .args .w .now) (begin .pre .1) (omega (arith, test .if1 .taken))
     (c .before .before .start .ensures)
 
 -- an order above 2
