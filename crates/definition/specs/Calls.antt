@@ -1,20 +1,35 @@
--- What each call promises, for every input: the number that it returns, its weight, and what each buffer lent to it holds afterwards. A name
--- with a prime (′) is a value after the call. p is the modulus, n the order, `done` the count of cycles done.
+-- What each call promises, for every input: the number that it returns, what it returns beside it, and what each buffer lent to it holds
+-- afterwards. A name with a prime (′) is a value after the call. p is the modulus, n the order, `done` the count of cycles done.
 --
 --   Compose   compose: the outer list f, the inner list g, the output, the work buffer
 --   Reverse   reverse: the series g, the output, the work buffer
 --   Open      the opening of a chain, with the running buffer s
 --   Cycle     a cycle of a chain, by its record (p, n, done), the cycle list c, the running buffer s, the work buffer
+--   Table     the table of primes
+--   Render    rendering of a refusal number, or of 0 with order, weight and coefficient list, into the text buffer
+--   Job       the job program's answer to a file, in a text buffer that holds every such answer
 use Prim.Native.Nat.{ℕ}
 use mathlib.Core.List.{List}
 use mathlib.Core.Logic.{_≢_}
 use mathlib.Core.Path.{_≡_}
-use lib.ListN.{length}
-use Rattle.definition.specs.Answer.{answered, cleared, kept}
+use lib.ListN.{getD, length}
+use Rattle.definition.specs.Answer.{answered, cleared, kept, overwritten}
 use Rattle.definition.specs.Chain.{counted}
-use Rattle.definition.specs.Refusal.{composeRefusal, composeWork, cycleRefusal, cycleWork, openRefusal, reverseRefusal}
+use Rattle.definition.specs.Job.{jobText}
+use Rattle.definition.specs.PrimeTable.{primeTable}
+use Rattle.definition.specs.Refusal.{
+  composeRefusal,
+  composeWork,
+  cycleRefusal,
+  cycleWork,
+  openRefusal,
+  renderRefusal,
+  reverseRefusal,
+  tableRefusal,
+}
 use Rattle.definition.specs.Reversion.{Reversion, identity}
 use Rattle.definition.specs.Substitution.{composed}
+use Rattle.definition.specs.Text.{rendered}
 use Rattle.definition.specs.Weight.{weight}
 
 pub record Compose (route p n : ℕ) (f g out out′ work work′ : List ℕ) (number weight′ : ℕ) : Type 0 where
@@ -50,3 +65,16 @@ pub record Cycle (route p n done : ℕ) (c s s′ work work′ : List ℕ) (numb
   pub counts : done′ ≡ counted number done
   pub running : s′ ≡ kept number (composed p n c s) s
   pub clears : work′ ≡ kept number (cleared (cycleWork n (length c)) work) work
+
+pub record Table (index number prime : ℕ) : Type 0 where
+  pub refusal : number ≡ tableRefusal index
+  pub entry : prime ≡ answered number (getD primeTable index 0)
+
+pub record Render (number n weight : ℕ) (l text text′ : List ℕ) (number′ count : ℕ) : Type 0 where
+  pub refusal : number′ ≡ renderRefusal number n (length l) (length (rendered number n weight l)) (length text)
+  pub counts : count ≡ answered number′ (length (rendered number n weight l))
+  pub writes : text′ ≡ kept number′ (overwritten (rendered number n weight l) text) text
+
+pub record Job (file text text′ : List ℕ) (count : ℕ) : Type 0 where
+  pub counts : count ≡ length (jobText file)
+  pub writes : text′ ≡ overwritten (jobText file) text

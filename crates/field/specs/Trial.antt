@@ -3,12 +3,12 @@
 --   Tried p d        p is odd and above 1, d is odd, and no number from 2 to d - 1 divides p
 --   tried-three      before 3 is tried
 --   tried-next       d does not divide p: on to d + 2
---   tried-room       while d is at most p / d, three times d is at most p
+--   tried-room       while the square of d is at most p, so is three times d
 --   tried-divided    d divides p: p is not prime
---   tried-prime      d is above p / d, so that its square is above p: p is prime
+--   tried-prime      the square of d is above p: p is prime
 --   even-prime       of the even numbers only 2 is prime
 -- Assumes nothing.
-use Prim.Native.Nat.{ℕ, _+_, _*_, _/_, _%_, _<_, _≤_}
+use Prim.Native.Nat.{ℕ, _+_, _*_, _%_, _<_, _≤_}
 use borrow.Author.Tests.{ne-eqb}
 use lib.Dec.{eqb}
 use mathlib.Core.Bool.{true, false}
@@ -16,9 +16,7 @@ use mathlib.Core.Logic.{_≢_}
 use mathlib.Core.Path.{_≡_, sym, _∙_}
 use native.Mathlib.Decide.{decLt, ℕ-discrete}
 use native.Mathlib.Nat.{
-  div-lt-iff-lt-mul,
   dvd-of-mod-eq-zero,
-  le-div-iff-mul-le,
   le-trans,
   mod-mod-of-dvd,
   mul-le-mul,
@@ -65,23 +63,20 @@ module _ {p d : ℕ} (t : Tried p d) where
       go k low high (no above) (yes e) = rw e here
       go k low high (no above) (no other) = odd-even p k (t .odd) (omega (arith, t .next-odd))
 
-  pub tried-room : d ≤ p / d → d * 3 ≤ p
-  tried-room h = le-trans (mul-le-mul-left d (t .past-two)) (le-div-iff-mul-le {k = d} (omega (arith, t .past-two)) .0 h)
+  pub tried-room : d * d ≤ p → d * 3 ≤ p
+  tried-room h = le-trans (mul-le-mul-left d (t .past-two)) h
 
-  pub tried-divided : d ≤ p / d → p % d ≡ 0 → isPrime p ≡ false
+  pub tried-divided : d * d ≤ p → p % d ≡ 0 → isPrime p ≡ false
   tried-divided h e =
       isPrime-false p (not-prime d (omega (arith, t .past-two)) (omega (arith, t .past-two, tried-room h)) e)
 
-  pub tried-prime : p / d < d → isPrime p ≡ true
+  pub tried-prime : p < d * d → isPrime p ≡ true
   tried-prime past = isPrime-true (prime-by-trial p (t .above-one) (λ k low square. t .undivided k low (small k square (decLt k d))))
     where
-      square-above : p < d * d
-      square-above = div-lt-iff-lt-mul {k = d} (omega (arith, t .past-two)) .0 past
-
       small : (k : ℕ) → k * k ≤ p → Dec (k < d) → k < d
       small k square (yes below) = below
       small k square (no above) =
-          let larger : d * d ≤ k * k = mul-le-mul (omega arith) (omega arith) in absurd (omega (arith, square-above))
+          let larger : d * d ≤ k * k = mul-le-mul (omega arith) (omega arith) in absurd (omega (arith, past))
 
 pub even-prime : (p : ℕ) → 1 < p → p % 2 ≡ 0 → eqb p 2 ≡ isPrime p
 unfolding isPrime indivisible

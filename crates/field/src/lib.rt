@@ -16,6 +16,13 @@ pub enum Opened {
     Refused,
 }
 
+// The whole product, which 64 bits hold.
+fn whole_product(a: u32, b: u32) -> u64
+    ensures { λ r. ⌜ r ≡ a * b ⌝ }
+{
+    a as u64 * b as u64
+}
+
 // Whether `p` is prime, by division by 2 and by the odd numbers up to the square root.
 pub fn is_prime(p: u32) -> bool
     ensures { λ r. ⌜ r ≡ isPrime p ⌝ }
@@ -27,7 +34,7 @@ pub fn is_prime(p: u32) -> bool
         return p == 2;
     }
     let mut d: u32 = 3;
-    while d <= p / d {
+    while whole_product(d, d) <= p as u64 {
         if p % d == 0 {
             return false;
         }
@@ -91,7 +98,7 @@ impl Field {
         requires { ⌜ 0 < self .modulus ⌝ }
         ensures { λ r. ⌜ r ≡ (a * b) % self .modulus ⌝ }
     {
-        self.reduced(a as u64 * b as u64)
+        self.reduced(whole_product(a, b))
     }
 
     // a^e modulo p, by squaring.

@@ -2,7 +2,5 @@
 --
 --   Sieve   a test by trial division that a list is the largest primes below a bound
 --   Table   the table written out, and its rule by that test
---   Entry   what the call of the table answers
 pub mod Sieve
 pub mod Table
-pub mod Entry

@@ -18,7 +18,7 @@ use mathlib.Core.Bool.{Bool, true, false, true≢false, false≢true, not, _&&_,
 use mathlib.Core.List.{List, [], _∷_}
 use mathlib.Core.Path.{_≡_, refl, sym, ap, _∙_}
 use native.Mathlib.Decide.{ℕ-discrete}
-use native.Mathlib.Nat.{add-suc, add-zero, div-lt-iff-lt-mul}
+use native.Mathlib.Nat.{add-suc, add-zero}
 use native.Mathlib.Omega.{arith}
 use Rattle.algebra.specs.Prime.{isPrime-false, isPrime-true, not-prime, prime-of-test}
 use Rattle.definition.specs.Prime.{Prime, isPrime}
@@ -31,7 +31,7 @@ trial (suc k) q d zero = false
 trial (suc k) q d (suc r) = trial k q (d + 2) (q % (d + 2))
 
 -- division up to an odd number e whose square is above q
-trial-isPrime : (q e : ℕ) → e ≤ q → q / e < e → (k d r : ℕ) → Tried q d → q % d ≡ r → d + 2 * k ≡ e → trial k q d r ≡ isPrime q
+trial-isPrime : (q e : ℕ) → e ≤ q → q < e * e → (k d r : ℕ) → Tried q d → q % d ≡ r → d + 2 * k ≡ e → trial k q d r ≡ isPrime q
 unfolding trial
 trial-isPrime q e low high zero d r t m at = let end : d ≡ e = omega arith in sym (tried-prime t (rw end high))
 trial-isPrime q e low high (suc k) d zero t m at = sym (isPrime-false q (not-prime d (omega arith) (omega arith) m))
@@ -59,7 +59,7 @@ quick-isPrime q low high = go (q % 2) refl
     go : (r : ℕ) → q % 2 ≡ r → oddTrial q r ≡ isPrime q
     go zero even = sym (isPrime-false q (not-prime 2 (omega arith) (omega arith) even))
     go (suc r) odd =
-        trial-isPrime q reach low (div-lt-iff-lt-mul {k = reach} (omega arith) .1 high) tries 3 (q % 3)
+        trial-isPrime q reach low high tries 3 (q % 3)
         (tried-three q (omega arith) (λ z. omega arith)) refl refl
 
 pub record Next (b q : ℕ) : Type 0 where

@@ -1,6 +1,6 @@
 // The sixteen largest primes below 2147483648.
 use field::Field;
-ghost use Rattle.primes.specs.Entry.{Entry};
+ghost use Rattle.definition.specs.Calls.{Table};
 
 // Largest first; entry 0 is the largest modulus.
 const TABLE: [u32; 16] = [
@@ -23,6 +23,7 @@ const TABLE: [u32; 16] = [
 ];
 
 // The number that a call returns, and the prime: 0 and an entry, or a refusal and 0.
+#[repr(C)]
 pub struct Answer {
     pub number: u32,
     pub prime: u32,
@@ -30,7 +31,7 @@ pub struct Answer {
 
 // Entry `index` of the table.
 pub fn prime(index: u32) -> Answer
-    ensures { λ r. ⌜ Entry index r ⌝ }
+    ensures { λ r. ⌜ Table index (r .number) (r .prime) ⌝ }
 {
     if index < 16 {
         Answer {

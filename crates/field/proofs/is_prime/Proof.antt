@@ -24,17 +24,22 @@ returns-2 c = even-prime _ (c .before .if1 .left) (c .if2 .taken)
 loop-holds : tie.Need-loop-holds Inv-loop μ-loop
 loop-holds c = tried-three _ (c .before .if1 .left) (c .if2 .left)
 
-div-loop : tie.Need-div-loop Inv-loop μ-loop
-div-loop c = search needs
+whole-product-requires : tie.Need-whole-product-requires Inv-loop μ-loop
+whole-product-requires c κs = search needs
 
-rem-if3 : tie.Need-rem-if3 Inv-loop μ-loop
-rem-if3 c = search needs
+rem-if4 : tie.Need-rem-if4 Inv-loop μ-loop
+rem-if4 c = search needs
+
+-- inside the loop: the square of d is at most p
+within : (c : tie.Then3 Inv-loop μ-loop) →
+    c .before .before .loop .d * c .before .before .loop .d ≤ c .before .before .before .before .before .args .p
+within c = rw (sym (c .before .whole-product .ensures)) (c .if3 .taken)
+
+room : (c : tie.Then3 Inv-loop μ-loop) → c .before .before .loop .d * 3 ≤ c .before .before .before .before .before .args .p
+room c = tried-room (c .before .before .loop .inv) (within c)
 
 returns-3 : tie.Need-returns-3 Inv-loop μ-loop
-returns-3 c = sym (tried-divided (c .before .before .loop .inv) (c .before .loop-test .taken) (c .if3 .taken))
-
-room : (c : tie.In-loop Inv-loop μ-loop) → c .before .loop .d * 3 ≤ c .before .before .before .before .args .p
-room c = tried-room (c .before .loop .inv) (c .loop-test .taken)
+returns-3 c = sym (tried-divided (c .before .before .before .loop .inv) (within (c .before)) (c .if4 .taken))
 
 add-d : tie.Need-add-d Inv-loop μ-loop
 add-d c = omega (arith, room (c .before))
@@ -43,10 +48,10 @@ loop-less : tie.Need-loop-less Inv-loop μ-loop
 loop-less c = omega (arith, room (c .before))
 
 loop-again : tie.Need-loop-again Inv-loop μ-loop
-loop-again c = tried-next (c .before .before .loop .inv) (c .if3 .left)
+loop-again c = tried-next (c .before .before .before .loop .inv) (c .if4 .left)
 
 returns-4 : tie.Need-returns-4 Inv-loop μ-loop
-returns-4 c = sym (tried-prime (c .before .loop .inv) (c .loop-test .left))
+returns-4 c = sym (tried-prime (c .before .before .loop .inv) (rw (sym (c .before .whole-product .ensures)) (c .if3 .left)))
 
 pub is-prime-spec : {M : Type 1} → statement M
 is-prime-spec =
@@ -57,8 +62,8 @@ is-prime-spec =
     returns
     returns-2
     loop-holds
-    div-loop
-    rem-if3
+    whole-product-requires
+    rem-if4
     returns-3
     add-d
     loop-less
