@@ -10,11 +10,11 @@ use checks::support::{run, Check};
 use checks::{calls, chain, equality, job, primes, render, reversion, routes, settled, traps};
 use std::process::ExitCode;
 
-const GROUPS: [(&str, Check); 24] = [
+const GROUPS: [(&str, Check); 29] = [
     ("settled examples", settled::examples::<Plain>),
-    ("whole case", settled::whole_case),
+    ("whole case", settled::whole_case::<Plain>),
     ("edges", settled::edges::<Plain>),
-    ("edges of the table and of rendering", settled::other_edges),
+    ("edges of the table and of rendering", settled::other_edges::<Plain>),
     ("routes: values and weights", routes::values_and_weights),
     ("routes: block lengths", routes::block_lengths),
     ("routes: larger cases", routes::larger_cases),
@@ -32,9 +32,14 @@ const GROUPS: [(&str, Check); 24] = [
     ("precedence of refusals", calls::precedence::<Plain>),
     ("chain: composition of all cycles", chain::composition::<Plain>),
     ("primality", primes::primality),
-    ("table", primes::table),
-    ("rendering", render::render),
-    ("job file", job::job),
+    ("table", primes::table::<Plain>),
+    ("rendering", render::render::<Plain>),
+    ("rendering: powers of ten", render::powers_of_ten::<Plain>),
+    ("rendering: the longest text", render::longest::<Plain>),
+    ("job file", job::job::<Plain>),
+    ("job file: every beginning", job::beginnings::<Plain>),
+    ("job file: overlapping lists", job::overlaps::<Plain>),
+    ("job file: offsets far past the file", job::far_offsets::<Plain>),
 ];
 
 fn main() -> ExitCode {

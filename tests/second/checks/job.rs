@@ -2,13 +2,20 @@
 //! printed for them.
 
 use super::broken::{lowest, put_too_large, some};
+use super::library::Program;
 use super::render::{accepted_text, refused_text};
 use super::support::{modulus, weight, Tally};
-use crate::plain::job;
 use crate::plain::random::Random;
 use crate::plain::substitution::substitution;
 
 const FILES: usize = 4000;
+
+/// Files of which every beginning is tried, and files with overlapping lists.
+const CUT_FILES: usize = 40;
+const OVERLAPPING_FILES: usize = 400;
+
+/// With bytes below 64 every number, at any offset, is below this modulus.
+const LARGE_MODULUS: u64 = 2_147_483_647;
 
 /// A file in the making: the header's numbers and all that follows.
 #[derive(Debug)]
@@ -77,26 +84,35 @@ impl File {
         }
     }
 
+    /// The first byte after the lists that are not empty, and after the header.
+    fn end(&self) -> usize {
+        let ends = COUNTS.map(|place| match self.header[place] {
+            0 => 28,
+            count => self.header[place + 1] + 4 * count,
+        });
+        ends[0].max(ends[1]) as usize
+    }
+
     fn bytes(&self) -> Vec<u8> {
         let header = self.header.iter().flat_map(|number| number.to_le_bytes());
         header.chain(self.rest.iter().copied()).collect()
     }
 }
 
-pub fn job(tally: &mut Tally, random: &mut Random) {
+pub fn job<P: Program>(tally: &mut Tally, random: &mut Random) {
     for _ in 0..FILES {
         let broken = some(random, &[1, 2, 3, 8, 12, 13]);
-        written(tally, random, &broken);
+        written::<P>(tally, random, &broken);
     }
     for number in [1, 2, 3, 8, 12, 13] {
         for _ in 0..20 {
-            written(tally, random, &[number]);
+            written::<P>(tally, random, &[number]);
         }
     }
-    cut_short(tally, random);
+    cut_short::<P>(tally, random);
 }
 
-fn written(tally: &mut Tally, random: &mut Random, broken: &[u32]) {
+fn written<P: Program>(tally: &mut Tally, random: &mut Random, broken: &[u32]) {
     let (p, n) = (modulus(random), random.count(1, 64));
     let (m, inner_count) = (random.count(0, 24), random.count(0, 24));
     let (mut f, mut g) = (random.list(p, m), random.list(p, inner_count));
@@ -115,29 +131,86 @@ fn written(tally: &mut Tally, random: &mut Random, broken: &[u32]) {
         file.alter(random, *number);
     }
     let wanted = if broken.is_empty() {
-        let weight = weight(route, p, f.len(), n);
-        accepted_text(n as u64, weight, &substitution(p, &f, &g, n))
+        composed_text(route, p, n, &f, &g)
     } else {
         let first = [12, 13].into_iter().find(|number| broken.contains(number));
         refused_text(first.unwrap_or(lowest(broken)))
     };
-    tally.equal((broken, &file), job::run(&file.bytes()), wanted);
+    tally.equal((broken, &file), P::answer(&file.bytes()), wanted);
+}
+
+/// The printed answer of an accepted job, by the definition of substitution and the rule of the weight.
+fn composed_text(route: u64, p: u64, n: usize, f: &[u32], g: &[u32]) -> Vec<u8> {
+    accepted_text(n as u64, weight(route, p, f.len(), n), &substitution(p, f, g, n))
+}
+
+/// Every beginning of a file: 13 until the header and both lists lie in it, then the whole answer.
+pub fn beginnings<P: Program>(tally: &mut Tally, random: &mut Random) {
+    for _ in 0..CUT_FILES {
+        let (route, p, n) = (random.route(), modulus(random), random.count(1, 16));
+        let (m, inner_count) = (random.count(0, 9), random.count(0, 9));
+        let (f, g) = (random.list(p, m), random.list(p, inner_count));
+        let file = File::write(random, [route as u32, p as u32, n as u32], &f, &g);
+        let (bytes, whole) = (file.bytes(), composed_text(route, p, n, &f, &g));
+        for length in 0..=bytes.len() {
+            let wanted = if length < file.end() { refused_text(13) } else { whole.clone() };
+            tally.equal((&file, length), P::answer(&bytes[..length]), wanted);
+        }
+    }
+}
+
+/// Lists that overlap in any way, at offsets that need not be multiples of 4.
+pub fn overlaps<P: Program>(tally: &mut Tally, random: &mut Random) {
+    for _ in 0..OVERLAPPING_FILES {
+        let counts = [random.count(1, 12), random.count(1, 12)];
+        let rest: Vec<u8> = (0..64).map(|_| random.below(64) as u8).collect();
+        let starts = counts.map(|count| random.count(0, rest.len() - 4 * count));
+        let lists = [0, 1].map(|i| {
+            let numbers = rest[starts[i]..].chunks(4).take(counts[i]);
+            numbers.map(|four| u32::from_le_bytes(four.try_into().unwrap())).collect::<Vec<u32>>()
+        });
+        let (route, n) = (random.route(), random.count(1, 12));
+        let [outer, inner] = starts.map(|start| 28 + start as u32);
+        let [m, inner_count] = counts.map(|count| count as u32);
+        let lead = [route as u32, LARGE_MODULUS as u32, n as u32];
+        let header = [lead[0], lead[1], lead[2], m, outer, inner_count, inner];
+        let file = File { header, rest };
+        let wanted = composed_text(route, LARGE_MODULUS, n, &lists[0], &lists[1]);
+        tally.equal(&file, P::answer(&file.bytes()), wanted);
+    }
+}
+
+/// Offsets far past the file, up to those whose list would end past 2^32: 13 for every count.
+pub fn far_offsets<P: Program>(tally: &mut Tally, _: &mut Random) {
+    for count in 1..=64u32 {
+        let wrapped = u32::MAX - 4 * count;
+        let near = [0, 1, 2, 28, 29, 80, 81].map(|more| wrapped.saturating_add(more));
+        let far = [1 << 31, (1 << 31) + 28, 1 << 16, 4096, u32::MAX - 3, u32::MAX];
+        for offset in near.into_iter().chain(far) {
+            for place in COUNTS {
+                let mut header = [1, 7, 4, 0, 0, 0, 0];
+                (header[place], header[place + 1]) = (count, offset);
+                let file = File { header, rest: vec![0; 4 * 64] };
+                tally.equal(&file, P::answer(&file.bytes()), refused_text(13));
+            }
+        }
+    }
 }
 
 /// A header that is cut short states no order and no count; at 28 bytes it does.
-fn cut_short(tally: &mut Tally, random: &mut Random) {
+fn cut_short<P: Program>(tally: &mut Tally, random: &mut Random) {
     let too_large = File { header: [1, 7, 65, 65, 28, 65, 28], rest: Vec::new() }.bytes();
     let header = [random.route() as u32, 7, 2, 0, 0, 0, 0];
     let empty_lists = File { header, rest: Vec::new() }.bytes();
     for length in 0..28 {
-        tally.equal(length, job::run(&too_large[..length]), refused_text(13));
-        tally.equal(length, job::run(&empty_lists[..length]), refused_text(13));
+        tally.equal(length, P::answer(&too_large[..length]), refused_text(13));
+        tally.equal(length, P::answer(&empty_lists[..length]), refused_text(13));
     }
-    tally.equal(&too_large, job::run(&too_large), refused_text(12));
-    tally.equal(&empty_lists, job::run(&empty_lists), accepted_text(2, 0, &[0, 0]));
+    tally.equal(&too_large, P::answer(&too_large), refused_text(12));
+    tally.equal(&empty_lists, P::answer(&empty_lists), accepted_text(2, 0, &[0, 0]));
     for (length, number) in [(4096, 0), (4097, 12)] {
         let padded = [empty_lists.clone(), vec![255; length - 28]].concat();
         let wanted = if number == 0 { accepted_text(2, 0, &[0, 0]) } else { refused_text(number) };
-        tally.equal(("bytes", length), job::run(&padded), wanted);
+        tally.equal(("bytes", length), P::answer(&padded), wanted);
     }
 }

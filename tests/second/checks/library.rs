@@ -1,11 +1,13 @@
 //! The calls that are checked, those of the second implementation or those of the linked library,
-//! and a call as data: what it is given and what it leaves.
+//! and a call as data: what it is given and what it leaves. The job program, likewise.
 
 use crate::plain::calls::{self, Answer};
 use crate::plain::chain::Chain;
+use crate::plain::{job, render};
 use std::fmt::{Debug, Formatter, Result};
 
-/// The calls with the buffers they are lent. A route, a modulus and the cycles done fit in 32 bits.
+/// The calls with the buffers they are lent. A route, a modulus, the cycles done and an index of the
+/// table fit in 32 bits.
 pub trait Library {
     fn compose(
         route: u64,
@@ -28,6 +30,18 @@ pub trait Library {
         running: &mut [u32],
         work: &mut [u32],
     ) -> (Chain, Answer);
+
+    /// The number, and the prime at this index of the table or 0.
+    fn table(index: u64) -> (u32, u32);
+
+    /// The number, and the count of bytes written from place 0 of the text buffer.
+    fn render(number: u32, n: u64, weight: u64, list: &[u32], text: &mut [u8]) -> (u32, u64);
+}
+
+/// The job program.
+pub trait Program {
+    /// The bytes that it prints for a file.
+    fn answer(file: &[u8]) -> Vec<u8>;
 }
 
 /// The second implementation.
@@ -62,6 +76,20 @@ impl Library for Plain {
         work: &mut [u32],
     ) -> (Chain, Answer) {
         chain.cycle(route, list, running, work)
+    }
+
+    fn table(index: u64) -> (u32, u32) {
+        calls::table(index)
+    }
+
+    fn render(number: u32, n: u64, weight: u64, list: &[u32], text: &mut [u8]) -> (u32, u64) {
+        render::render(number, n, weight, list, text)
+    }
+}
+
+impl Program for Plain {
+    fn answer(file: &[u8]) -> Vec<u8> {
+        job::run(file)
     }
 }
 

@@ -1,7 +1,7 @@
 //! Primality and the table against a sieve.
 
+use super::library::Library;
 use super::support::Tally;
-use crate::plain::calls;
 use crate::plain::primes::{is_prime, LARGEST_MODULUS};
 use crate::plain::random::Random;
 
@@ -28,13 +28,13 @@ pub fn primality(tally: &mut Tally, _: &mut Random) {
     tally.equal("below 2", (is_prime(0), is_prime(1)), (false, false));
 }
 
-pub fn table(tally: &mut Tally, _: &mut Random) {
+pub fn table<L: Library>(tally: &mut Tally, _: &mut Random) {
     let largest_first = sieve(LARGEST_MODULUS - 2000, LARGEST_MODULUS).into_iter().rev();
     for (index, prime) in largest_first.take(16).enumerate() {
-        tally.equal(("index", index), calls::table(index as u64), (0, prime as u32));
+        tally.equal(("index", index), L::table(index as u64), (0, prime as u32));
     }
-    tally.equal("index 0", calls::table(0), (0, 2_147_483_647));
-    for index in [16, 17, 1 << 32, u64::MAX] {
-        tally.equal(("index", index), calls::table(index), (14, 0));
+    tally.equal("index 0", L::table(0), (0, 2_147_483_647));
+    for index in [16, 17, 1 << 16, u64::from(u32::MAX)] {
+        tally.equal(("index", index), L::table(index), (14, 0));
     }
 }

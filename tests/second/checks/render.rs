@@ -1,6 +1,7 @@
 //! Rendering against the language's own formatting.
 
 use super::broken::{lowest, other_length, some, UNFIT_ORDERS};
+use super::library::Library;
 use super::support::Tally;
 use crate::plain::random::Random;
 use crate::plain::render;
@@ -24,18 +25,44 @@ fn number_of_any_size(random: &mut Random) -> u64 {
     random.pick(&[0, 1, 9, 10, u64::MAX, shorter])
 }
 
-pub fn render(tally: &mut Tally, random: &mut Random) {
+pub fn render<L: Library>(tally: &mut Tally, random: &mut Random) {
     for _ in 0..CALLS {
         let number = number_of_any_size(random);
         tally.equal(number, render::digits(number), number.to_string().into_bytes());
         let broken = some(random, &[3, 6, 7]);
-        accepted_answer(tally, random, &broken);
+        accepted_answer::<L>(tally, random, &broken);
         let short = random.once_in(3);
-        refusal(tally, random, short);
+        refusal::<L>(tally, random, short);
     }
 }
 
-fn accepted_answer(tally: &mut Tally, random: &mut Random, broken: &[u32]) {
+/// Numbers at both sides of each power of ten, as coefficient, weight and refusal number.
+pub fn powers_of_ten<L: Library>(tally: &mut Tally, random: &mut Random) {
+    for exponent in 0..20 {
+        let power = 10u64.pow(exponent);
+        for weight in [power - 1, power, power + 1] {
+            let list = [weight as u32, 0, weight as u32];
+            let text = accepted_text(3, weight, &list);
+            let buffer = text_buffer(random, text.len(), false);
+            rendered::<L>(tally, (0, 3, weight, &list), &buffer, Ok(text));
+            let number = (weight as u32).max(1);
+            let text = refused_text(number);
+            let buffer = text_buffer(random, text.len(), false);
+            rendered::<L>(tally, (number, 3, weight, &list), &buffer, Ok(text));
+        }
+    }
+}
+
+/// The longest text, in a buffer of just its length and in one that is a byte shorter.
+pub fn longest<L: Library>(tally: &mut Tally, random: &mut Random) {
+    let list = vec![u32::MAX; 4096];
+    let text = accepted_text(4096, u64::MAX, &list);
+    let (whole, short) = (dirty(random, text.len()), dirty(random, text.len() - 1));
+    rendered::<L>(tally, (0, 4096, u64::MAX, &list), &whole, Ok(text));
+    rendered::<L>(tally, (0, 4096, u64::MAX, &list), &short, Err(7));
+}
+
+fn accepted_answer<L: Library>(tally: &mut Tally, random: &mut Random, broken: &[u32]) {
     let places = random.count(1, 8);
     let mut n = places as u64;
     let weight = number_of_any_size(random);
@@ -50,34 +77,38 @@ fn accepted_answer(tally: &mut Tally, random: &mut Random, broken: &[u32]) {
         }
     }
     let wanted = if broken.is_empty() { Ok(text) } else { Err(lowest(broken)) };
-    rendered(tally, (0, n, weight, &list), &buffer, wanted);
+    rendered::<L>(tally, (0, n, weight, &list), &buffer, wanted);
 }
 
 /// With a refusal number only 7 is met, whatever the order and the list.
-fn refusal(tally: &mut Tally, random: &mut Random, short: bool) {
+fn refusal<L: Library>(tally: &mut Tally, random: &mut Random, short: bool) {
     let number = (number_of_any_size(random) as u32).max(1);
     let text = refused_text(number);
     let buffer = text_buffer(random, text.len(), short);
     let places = random.count(0, 3);
     let list = random.buffer(places);
     let wanted = if short { Err(7) } else { Ok(text) };
-    rendered(tally, (number, random.pick(&[0, 1, 2, 4097]), 5, &list), &buffer, wanted);
+    rendered::<L>(tally, (number, random.pick(&[0, 1, 2, 4097]), 5, &list), &buffer, wanted);
 }
 
 fn text_buffer(random: &mut Random, needed: usize, short: bool) -> Vec<u8> {
     let length = if short { random.pick(&[0, needed - 1]) } else { needed + random.count(0, 3) };
+    dirty(random, length)
+}
+
+fn dirty(random: &mut Random, length: usize) -> Vec<u8> {
     (0..length).map(|_| random.next() as u8).collect()
 }
 
 /// Renders into a copy of the buffer; wanted is the text, or the number of the refusal.
-fn rendered(
+fn rendered<L: Library>(
     tally: &mut Tally,
     (number, n, weight, list): (u32, u64, u64, &[u32]),
     before: &[u8],
     wanted: Result<Vec<u8>, u32>,
 ) {
     let mut buffer = before.to_vec();
-    let found = render::render(number, n, weight, list, &mut buffer);
+    let found = L::render(number, n, weight, list, &mut buffer);
     let left = match wanted {
         Ok(text) => {
             let count = text.len();

@@ -1,10 +1,10 @@
 //! The values that the statement settles: the twelve examples, the whole case and the edges.
 
-use super::library::Library;
+use super::library::{Library, Program};
 use super::support::{compose, reverse, Case, Tally};
-use crate::plain::calls::{self, Answer};
+use crate::plain::calls::Answer;
 use crate::plain::random::Random;
-use crate::plain::{job, primes, refusals, render, substitution::substitution};
+use crate::plain::{primes, refusals, substitution::substitution};
 
 fn case(p: u64, f: &[u32], g: &[u32], n: usize) -> Case {
     Case { p, n, f: f.to_vec(), g: g.to_vec() }
@@ -57,11 +57,11 @@ fn reversed_examples<L: Library>(tally: &mut Tally, random: &mut Random) {
     tally.equal("reverse 0 0 1, n 1", (answer.number, out), (0, vec![0]));
 }
 
-pub fn whole_case(tally: &mut Tally, _: &mut Random) {
+pub fn whole_case<P: Program>(tally: &mut Tally, _: &mut Random) {
     let numbers: [u32; 13] = [1, 7, 4, 3, 28, 3, 40, 1, 2, 3, 0, 1, 1];
     let file: Vec<u8> = numbers.iter().flat_map(|number| number.to_le_bytes()).collect();
     tally.equal(&file, file.len(), 52);
-    tally.equal(&file, job::run(&file), b"ok 4 8\n1 2 5 6\n".to_vec());
+    tally.equal(&file, P::answer(&file), b"ok 4 8\n1 2 5 6\n".to_vec());
 }
 
 pub fn edges<L: Library>(tally: &mut Tally, random: &mut Random) {
@@ -71,15 +71,15 @@ pub fn edges<L: Library>(tally: &mut Tally, random: &mut Random) {
 }
 
 /// The edges of the table and of rendering.
-pub fn other_edges(tally: &mut Tally, _: &mut Random) {
+pub fn other_edges<L: Library>(tally: &mut Tally, _: &mut Random) {
     for (n, number) in [(4096, 0), (4097, 3)] {
         let list = vec![0; n];
-        let (found, _) = render::render(0, n as u64, 0, &list, &mut vec![0; 3 * n]);
+        let (found, _) = L::render(0, n as u64, 0, &list, &mut vec![0; 3 * n]);
         tally.equal(("render", n), found, number);
     }
-    let (number, prime) = calls::table(15);
+    let (number, prime) = L::table(15);
     tally.equal("index 15", (number, primes::is_prime(u64::from(prime))), (0, true));
-    tally.equal("index 16", calls::table(16), (14, 0));
+    tally.equal("index 16", L::table(16), (14, 0));
 }
 
 /// Order 4096 is accepted and 4097 gives 3.
