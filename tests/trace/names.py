@@ -1,4 +1,4 @@
-"""Every name that docs/TRACE.md gives in backquotes stands where it says.
+"""Every name that the tables of docs/TRACE.md and docs/GUARANTEES.md give in backquotes stands where it says, and no row is open.
 
 `File: a, B.part`         names of crates/definition/specs/File.antt
 `crate/File: a, b`        names of crates/crate/specs/File.antt
@@ -10,6 +10,7 @@ import pathlib
 import re
 import sys
 
+PAGES = ["docs/TRACE.md", "docs/GUARANTEES.md"]
 CRATES = pathlib.Path("crates")
 NAME = r"[^\s`,:;|(){}]+"
 
@@ -50,14 +51,22 @@ def missing_in_row(row):
     return missing, read
 
 
+def check(page):
+    """Prints what is wrong with the tables of a page; how many names were looked up, and how many faults there are."""
+    rows = [line for line in pathlib.Path(page).read_text().splitlines() if line.startswith("|")]
+    found = [missing_in_row(row) for row in rows]
+    faults = [f"names {name}, which does not stand there" for names, _ in found for name in names]
+    faults += [f"has an open row: {row}" for row in rows if re.search(r"\bopen\b", re.sub(r"`[^`]*`", "", row))]
+    for fault in faults:
+        print(f"{page} {fault}")
+    return sum(read for _, read in found), len(faults)
+
+
 def main():
-    lines = pathlib.Path("docs/TRACE.md").read_text().splitlines()
-    rows = [missing_in_row(line) for line in lines if line.startswith("|")]
-    missing = [name for names, _ in rows for name in names]
-    for name in missing:
-        print(f"docs/TRACE.md names {name}, which does not stand there")
-    print(f"trace: {sum(read for _, read in rows)} names looked up, {len(missing)} missing")
-    return 1 if missing else 0
+    checked = [check(page) for page in PAGES]
+    faults = sum(count for _, count in checked)
+    print(f"trace: {sum(read for read, _ in checked)} names looked up, {faults} faults")
+    return 1 if faults else 0
 
 
 if __name__ == "__main__":
