@@ -20,7 +20,7 @@ mod plain;
 
 use checks::library::{Library, Plain};
 use linked::Linked;
-use measure::{measured, Row};
+use measure::{measured, shortest, Row, Timed};
 use plain::random::Random;
 use plain::{reversion, routes};
 
@@ -32,13 +32,20 @@ const SLOW: usize = 1024;
 const ROUTES: [&str; 4] = ["Horner", "ranged", "Bernstein", "Kinoshita and Li"];
 const REVERSION: &str = "reversion";
 
-fn composition(route: u64, n: usize, f: &[u32], g: &[u32]) -> Row {
+/// The time and the answer of FLINT, where it is installed.
+fn by_flint(run: impl Fn() -> Option<Vec<u32>>) -> Option<Timed<Vec<u32>>> {
+    run()?;
+    let (time, answer) = shortest(run);
+    Some((time, answer?))
+}
+
+fn composition(route: u64, n: usize, f: &[u32], g: &[u32], flint: Option<&Timed<Vec<u32>>>) -> Row {
     measured(
         ROUTES[route as usize - 1],
         n,
         |out, work| Linked::compose(route, MODULUS, n as u64, f, g, out, work),
         Some(|| routes::by_number(route, MODULUS, f, g, n)),
-        || flint::compose(P, f, g, n),
+        flint,
     )
 }
 
@@ -49,7 +56,7 @@ fn opening(n: usize) -> Row {
         (out, answer.weight)
     };
     let library = |out: &mut [u32], _: &mut [u32]| Linked::open(MODULUS, n as u64, out).1;
-    measured("opening", n, library, Some(second), || None)
+    measured("opening", n, library, Some(second), None)
 }
 
 fn reversion(n: usize, g: &[u32]) -> Row {
@@ -58,7 +65,7 @@ fn reversion(n: usize, g: &[u32]) -> Row {
         n,
         |out, work| Linked::reverse(MODULUS, n as u64, g, out, work),
         (n <= SLOW).then_some(|| (reversion::reverse(MODULUS, g, n), 0)),
-        || flint::reverse(P, g, n),
+        by_flint(|| flint::reverse(P, g, n)).as_ref(),
     )
 }
 
@@ -75,8 +82,9 @@ fn main() {
         let mut list = || (0..n).map(|_| random.non_zero(MODULUS)).collect::<Vec<u32>>();
         let (f, mut g) = (list(), list());
         g[0] = 0;
+        let composed = by_flint(|| flint::compose(P, &f, &g, n));
         for route in if n <= SLOW { 1..=4 } else { 4..=4 } {
-            print(composition(route, n, &f, &g));
+            print(composition(route, n, &f, &g, composed.as_ref()));
         }
         print(opening(n));
         print(reversion(n, &g));

@@ -5,7 +5,7 @@ use crate::plain::calls::Answer;
 use crate::plain::refusals::work_places;
 use std::time::{Duration, Instant};
 
-/// A measurement is repeated for at least this long.
+/// A run is repeated once at least, and until all runs took this long.
 const LONG_ENOUGH: Duration = Duration::from_millis(300);
 
 /// The times of a call at an order, in milliseconds; None is not measured.
@@ -55,10 +55,14 @@ pub fn ratio(value: Option<f64>) -> String {
     }
 }
 
-/// The shortest time of a run in milliseconds, and what the last run gave.
-fn shortest<T>(mut run: impl FnMut() -> T) -> (f64, T) {
+/// A time in milliseconds and the answer that took it.
+pub type Timed<T> = (f64, T);
+
+/// The shortest time of a run, and what the last run gave.
+pub fn shortest<T>(mut run: impl FnMut() -> T) -> Timed<T> {
     let begin = Instant::now();
-    let mut best = Duration::MAX;
+    run();
+    let mut best = begin.elapsed();
     loop {
         let start = Instant::now();
         let value = run();
@@ -69,14 +73,14 @@ fn shortest<T>(mut run: impl FnMut() -> T) -> (f64, T) {
     }
 }
 
-/// The three computations of a call at order n, with lists of n coefficients. The second
-/// implementation gives its weight too; a computation that is left out gives None.
+/// A call of the library at order n, with lists of n coefficients, beside the second
+/// implementation, which gives its weight too, and what FLINT gave; None is left out.
 pub fn measured(
     call: &'static str,
     n: usize,
     compute: impl Fn(&mut [u32], &mut [u32]) -> Answer,
     second: Option<impl Fn() -> (Vec<u32>, u64)>,
-    flint: impl Fn() -> Option<Vec<u32>>,
+    flint: Option<&Timed<Vec<u32>>>,
 ) -> Row {
     let mut out = vec![0; n];
     let mut work = vec![0; work_places(n as u64, n) as usize];
@@ -87,9 +91,9 @@ pub fn measured(
         assert!(out == value && answer.weight == weight, "{call}, n = {n}: the second differs");
         time
     });
-    let flint = flint().map(|value| {
-        assert!(out == value, "{call}, n = {n}: FLINT differs");
-        shortest(&flint).0
+    let flint = flint.map(|(time, value)| {
+        assert!(out == *value, "{call}, n = {n}: FLINT differs");
+        *time
     });
     Row { n, call, library, second, flint }
 }

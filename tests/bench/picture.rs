@@ -7,11 +7,11 @@ use std::fmt::Write;
 
 const COLOURS: [&str; 5] = ["#0072b2", "#c04e00", "#007a5a", "#8a3fa0", "#7a5200"];
 const WIDTH: f64 = 1120.0;
-const HEIGHT: f64 = 800.0;
+const HEIGHT: f64 = 785.0;
 /// The plotting area of a panel, the distance from a panel to the next, and the first one's place.
 const PANEL: (f64, f64) = (280.0, 240.0);
-const STEP: (f64, f64) = (340.0, 350.0);
-const FIRST: (f64, f64) = (90.0, 110.0);
+const STEP: (f64, f64) = (340.0, 355.0);
+const FIRST: (f64, f64) = (90.0, 128.0);
 
 /// How the times of one program are drawn: its name, the strokes of its line, and its mark.
 struct Style {
@@ -23,7 +23,7 @@ struct Style {
 
 const STYLES: [Style; 3] = [
     Style { name: "library", dashes: "none", mark: disc, time: |row| Some(row.library) },
-    Style { name: "second implementation", dashes: "9 5", mark: square, time: |row| row.second },
+    Style { name: "straightforward code", dashes: "9 5", mark: square, time: |row| row.second },
     Style { name: "FLINT", dashes: "2 5", mark: triangle, time: |row| row.flint },
 ];
 
@@ -116,14 +116,16 @@ fn panel(axes: &Axes, call: &str, colour: &str, rows: &[&Row]) -> String {
         drawn += &line(&points, colour, style);
     }
     let look = format!("font-size='17' font-weight='bold' fill='{colour}'");
-    drawn += &text(axes.left, axes.top - 30.0, &look, call);
-    let ratios = |to: fn(&Row) -> Option<f64>, name: &str| {
-        let last = rows.iter().rev().find(|row| to(row).is_some())?;
-        Some(format!("{} × {name} at {}", ratio(to(last)), last.n))
-    };
-    let parts = [ratios(Row::to_second, "second"), ratios(Row::to_flint, "FLINT")];
-    let words = parts.into_iter().flatten().collect::<Vec<_>>().join(", ");
-    drawn + &text(axes.left, axes.top - 10.0, "", &words)
+    drawn += &text(axes.left, axes.top - 46.0, &look, call);
+    let others: [(fn(&Row) -> Option<f64>, &str, f64); 2] =
+        [(Row::to_second, "straightforward", 27.0), (Row::to_flint, "FLINT", 10.0)];
+    for (to, name, above) in others {
+        if let Some(last) = rows.iter().rev().find(|row| to(row).is_some()) {
+            let words = format!("{} × {name} at n = {}", ratio(to(last)), last.n);
+            drawn += &text(axes.left, axes.top - above, "", &words);
+        }
+    }
+    drawn
 }
 
 fn line(points: &[(f64, f64)], colour: &str, style: &Style) -> String {
@@ -150,12 +152,14 @@ fn legend(left: f64, top: f64, with_flint: bool) -> String {
     }
     let words = [
         "Both axes are logarithmic; lower is quicker.",
-        "Under each name: the library's time",
-        "divided by that of each other program.",
-        "FLINT has one composition, drawn in each",
-        "panel of a route.",
+        "Under each name: the library's time as a",
+        "multiple of the others' times; below 1 the",
+        "library is quicker. What takes minutes at",
+        "n = 4096 is not drawn there.",
+        "FLINT has one composition, which stands",
+        "in the panel of each route.",
     ];
-    let words = &words[..if with_flint { 5 } else { 3 }];
+    let words = &words[..if with_flint { 7 } else { 5 }];
     for (place, words) in words.iter().enumerate() {
         drawn += &text(left, top + 134.0 + 21.0 * place as f64, "", words);
     }
