@@ -1,6 +1,8 @@
 # make test   the gate: formatting, the comparison tests, the proofs, the must-fail edits and the programs
 # make run    the job program on the whole case of document 01; until the program exists, the settled examples
-# make bench  each route, an opening and reversion beside the straightforward code of the second implementation, as ratios; no part of the gate
+# make bench  each route, an opening and reversion beside the straightforward code of the second implementation and beside FLINT, as ratios
+#             and as the picture target/bench.svg; no part of the gate
+# make flint  installs FLINT for the benchmark, which does without it where it is missing
 # make clean  removes target/, where everything that is built stands
 
 SECOND := target/tests/second

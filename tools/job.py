@@ -26,7 +26,7 @@ These five make a file of the header, the outer list and the inner list. Other l
 
 Numbers are decimal, from 0 to 4294967295. Lists and spare bytes may overlap where they agree. Bytes that no word states are 0.
 A job that the job program refuses is written like any other, and a note on standard error says why it will be refused.
-What show prints gives the same file again, byte for byte.
+What show prints of a file with a whole header gives the same file again, byte for byte.
 
 Exit status: 0 done; 1 the file cannot be read or written, or is shown and has no whole header or lists (the job program
 answers 12 or 13); 2 wrong use or a wrong word.
@@ -41,8 +41,10 @@ import sys
 
 from job_file import HEADER, ROUTES, refusal, words_of
 
-SINGLE = ("route", "modulus", "order", "outer-offset", "inner-offset", "outer-count", "inner-count")
-WORDS = ("route", "modulus", "order", "outer", "inner", *SINGLE[3:], "spare")
+FIXED = ("route", "modulus", "order")
+NEEDED = (*FIXED, "outer", "inner")
+LAYOUT = ("outer-offset", "inner-offset", "outer-count", "inner-count")
+WORDS = (*NEEDED, *LAYOUT, "spare")
 LARGEST = 2**32 - 1
 # the most bytes of a file that is written or shown, and of the words that state one
 LONGEST = 65536
@@ -127,7 +129,7 @@ def route_number(place, token):
 
 def value_of(entry):
     """The number of a word that takes one, the list of a word that takes several."""
-    if entry.word not in SINGLE:
+    if entry.word in ("outer", "inner"):
         return [number(entry.word, *value) for value in entry.values]
     if len(entry.values) != 1:
         raise WrongWord(f"{entry.place}: {entry.word} has {len(entry.values) or 'no'} values; expected one number")
@@ -139,7 +141,8 @@ def value_of(entry):
 def spare_piece(entry):
     """The bytes of a spare entry, with where they stand."""
     if len(entry.values) < 2:
-        raise WrongWord(f"{entry.place}: spare has {len(entry.values) or 'no'} values; expected the first byte's place and the bytes")
+        found = "a place and no bytes" if entry.values else "no values"
+        raise WrongWord(f"{entry.place}: spare has {found}; expected the place of the first byte, and the bytes")
     first = number("spare", *entry.values[0])
     return entry.place, "spare", first, bytes(number("spare", *value, most=255) for value in entry.values[1:])
 
@@ -152,17 +155,16 @@ def collected(entries):
             spare.append(spare_piece(entry))
             continue
         if entry.word in places:
-            raise WrongWord(f"{entry.place}: {entry.word} is given twice; it was given at {places[entry.word]}, expected once")
+            raise WrongWord(f"{entry.place}: {entry.word} is given twice, first at {places[entry.word]}; expected once")
         places[entry.word] = entry.place
         values[entry.word] = value_of(entry)
     for name in ("outer", "inner"):
         if name in places and f"{name}-count" in places:
             place = places[f"{name}-count"]
-            raise WrongWord(f"{place}: {name}-count stands in place of {name}, which is given at {places[name]}; expected one of them")
-    given = {word.removesuffix("-count") for word in places if word.endswith("-count")} | set(places)
-    missing = [word for word in WORDS[:5] if word not in given]
+            raise WrongWord(f"{place}: {name}-count stands in place of {name}, given at {places[name]}; expected one of them")
+    missing = [word for word in NEEDED if word not in places and f"{word}-count" not in places]
     if missing:
-        raise WrongWord(f"missing: {', '.join(missing)}; expected each of {', '.join(WORDS[:5])}")
+        raise WrongWord(f"missing: {', '.join(missing)}; expected each of {', '.join(NEEDED)}")
     return values, places, spare
 
 
@@ -174,8 +176,8 @@ def file_of(tokens):
     outer_offset = values.get("outer-offset", HEADER.size)
     inner_offset = values.get("inner-offset", outer_offset + 4 * outer_count)
     if inner_offset > LARGEST:
-        raise WrongWord(f"missing: inner-offset; the outer list ends at byte {inner_offset}, and expected is a place that fits 32 bits")
-    fixed = [values[word] for word in WORDS[:3]]
+        raise WrongWord(f"missing: inner-offset; expected it, as the outer list ends at byte {inner_offset}, which does not fit 32 bits")
+    fixed = [values[word] for word in FIXED]
     header = HEADER.pack(*fixed, outer_count, outer_offset, inner_count, inner_offset)
     pieces = [("", "header", 0, header)]
     for name, offset, numbers in (("outer", outer_offset, outer), ("inner", inner_offset, inner)):
@@ -189,7 +191,7 @@ def laid_out(pieces):
     for place, name, offset, data in pieces:
         end = offset + len(data)
         if data and end > LONGEST:
-            raise WrongWord(f"{place}: {name} ends at byte {end}; expected an end of at most {LONGEST}, the longest file written")
+            raise WrongWord(f"{place}: {name} ends at byte {end}; expected at most {LONGEST}, the longest file that is written")
         if data and end > len(file):
             owners += [None] * (end - len(file))
             file += bytes(end - len(file))
@@ -205,7 +207,7 @@ def laid_out(pieces):
 
 
 def bytes_read(name, most):
-    """The bytes of the file, which has at most so many."""
+    """The bytes of the file, which may have at most so many."""
     try:
         with open(0 if name == "-" else name, "rb", closefd=name != "-") as stream:
             data = stream.read(most + 1)
@@ -232,7 +234,7 @@ def write(name, arguments):
     if arguments:
         tokens = tokens_of_arguments(arguments)
     else:
-        tokens = tokens_of_lines(bytes_read("-", LONGEST_WORDS).decode("utf-8", "replace"))
+        tokens = tokens_of_lines(bytes_read("-", LONGEST_WORDS).decode("utf-8-sig", "replace"))
     file = file_of(tokens)
     bytes_written(name, file)
     answer, why = refusal(file)
@@ -246,7 +248,7 @@ def show(name, arguments):
         raise WrongWord(f"{quoted(arguments[0])} stands after the file to show; expected nothing there")
     file = bytes_read(name, LONGEST)
     answer, why = refusal(file)
-    lines = words_of(file) if len(file) >= HEADER.size else []
+    lines = words_of(file) if len(file) >= HEADER.size else [" ".join(["# bytes:", *map(str, file)])]
     if answer:
         lines.append(f"# no {answer}: {why}")
     bytes_written("-", "".join(line + "\n" for line in lines).encode())
