@@ -1,6 +1,8 @@
 # make test   the gate: formatting, the comparison tests, the proofs, the must-fail edits and the programs
 # make run    the job program on the whole case of document 01; until the program exists, the settled examples
-# make bench  each route, an opening and reversion beside the straightforward code of the second implementation, as ratios; no part of the gate
+# make bench  each route, an opening and reversion beside the straightforward code of the second implementation and beside FLINT, as ratios
+#             and as the picture target/bench.svg; no part of the gate
+# make flint  installs FLINT for the benchmark, which does without it where it is missing
 # make clean  removes target/, where everything that is built stands
 
 SECOND := target/tests/second
@@ -10,11 +12,12 @@ BENCH := target/tests/bench
 PLAIN := $(wildcard tests/second/*.rs tests/second/*/*.rs)
 RUSTC := rustc --edition 2021 -O -D warnings
 LINK := -L target/staticlib -l static=trial
+FLINT = $(shell cc -E -include flint/nmod_poly.h -x c /dev/null >/dev/null 2>&1 && echo -lflint)
 SEED := 1
 
-.PHONY: test run bench clean formatted trace second linked library definitions wrong-definitions tools
+.PHONY: test run bench flint job-tool clean formatted trace second linked library definitions wrong-definitions tools
 
-test: tools formatted trace second wrong-definitions linked
+test: tools formatted trace job-tool second wrong-definitions linked
 	rt ci
 
 run: tools
@@ -28,6 +31,10 @@ formatted: tools
 trace: tools
 	python3 tests/trace/names.py
 
+# the tool that writes and shows job files
+job-tool: tools
+	python3 tests/tools/job_tool.py
+
 # the plain second implementation checks itself
 second: tools $(SECOND)
 	$(SECOND) $(SEED)
@@ -40,8 +47,13 @@ linked: tools library $(PLAIN)
 
 bench: tools library $(PLAIN)
 	mkdir -p $(dir $(BENCH))
-	$(RUSTC) $(LINK) -o $(BENCH) tests/bench/main.rs
-	$(BENCH)
+	cc -O2 -c -o $(BENCH)-flint.o tests/bench/flint.c
+	$(RUSTC) $(LINK) -C link-args='$(BENCH)-flint.o $(FLINT)' -o $(BENCH) tests/bench/main.rs
+	$(BENCH) target/bench.svg
+
+# FLINT, another library, stands beside the rest in the benchmark where it is installed
+flint:
+	apt-get update && apt-get install -y libflint-dev
 
 # the static library, which is proved before it is written
 library: tools
