@@ -1,0 +1,42 @@
+// The calls as C functions: compose, reverse and the table of primes. A slice passes as its pointer and its count.
+ghost use Rattle.definition.specs.Calls.{Compose, Reverse, Table};
+
+// f(g) modulo x^n over the integers modulo p, by the route named.
+#[no_mangle]
+pub extern "C" fn ruhitapo_compose(
+    route: u32,
+    p: u32,
+    n: usize,
+    f: &[u32],
+    g: &[u32],
+    out: &mut [u32],
+    work: &mut [u32],
+) -> refusal::Answer
+    ensures { λ r. ⌜ Compose route p n (now (f .entry)) (now (g .entry)) (now (out .entry)) (now (out .exit))
+        (now (work .entry)) (now (work .exit)) (r .number) (r .weight) ⌝ }
+{
+    compose::compose(route, p, n, f, g, out, work)
+}
+
+// The reverse series of g modulo x^n.
+#[no_mangle]
+pub extern "C" fn ruhitapo_reverse(
+    p: u32,
+    n: usize,
+    g: &[u32],
+    out: &mut [u32],
+    work: &mut [u32],
+) -> refusal::Answer
+    ensures { λ r. ⌜ Reverse p n (now (g .entry)) (now (out .entry)) (now (out .exit)) (now (work .entry)) (now (work .exit))
+        (r .number) (r .weight) ⌝ }
+{
+    reversion::reverse(p, n, g, out, work)
+}
+
+// Entry `index` of the table of the sixteen primes.
+#[no_mangle]
+pub extern "C" fn ruhitapo_prime(index: u32) -> primes::Answer
+    ensures { λ r. ⌜ Table index (r .number) (r .prime) ⌝ }
+{
+    primes::prime(index)
+}
