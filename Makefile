@@ -9,7 +9,7 @@ LINKED := target/tests/linked
 BENCH := target/tests/bench
 PLAIN := $(wildcard tests/second/*.rs tests/second/*/*.rs)
 RUSTC := rustc --edition 2021 -O -D warnings
-LINK := -L target/staticlib -l static=trial
+LINK := -L target/staticlib -l static=ruhitapo -l static=trial
 SEED := 1
 
 .PHONY: test run bench clean formatted trace second linked library definitions wrong-definitions tools
@@ -43,8 +43,9 @@ bench: tools library $(PLAIN)
 	$(RUSTC) $(LINK) -o $(BENCH) tests/bench/main.rs
 	$(BENCH)
 
-# the static library, which is proved before it is written
+# the static libraries, each proved before it is written: the C interface, and the calls of a chain for the comparison tests
 library: tools
+	rt staticlib ruhitapo
 	rt staticlib trial
 
 # the definitions, held against the second implementation: the prover computes seeded equations in a repository of their own
