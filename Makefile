@@ -7,12 +7,17 @@ SECOND := target/tests/second
 DEFINITIONS := target/tests/definitions
 LINKED := target/tests/linked
 BENCH := target/tests/bench
+C_INTERFACE := target/tests/c_interface
+JOINER := target/examples/joiner
 PLAIN := $(wildcard tests/second/*.rs tests/second/*/*.rs)
 RUSTC := rustc --edition 2021 -O -D warnings
+STRICT := -Wall -Wextra -Werror -pedantic
+CC99 := gcc -std=c99 -O2 $(STRICT) -Iinclude
 LINK := -L target/staticlib -l static=ruhitapo -l static=trial
 SEED := 1
+CALLS := 24000
 
-.PHONY: test run bench clean formatted trace second linked library definitions wrong-definitions tools
+.PHONY: test run bench clean formatted trace second linked c-interface joiner library definitions wrong-definitions tools
 
 test: tools formatted trace second wrong-definitions linked
 	rt ci
@@ -37,6 +42,20 @@ linked: tools library $(PLAIN)
 	mkdir -p $(dir $(LINKED))
 	$(RUSTC) $(LINK) -o $(LINKED) tests/linked/main.rs
 	$(LINKED) $(SEED)
+
+# the C interface: its header as C and as C++, and seeded calls held against a plain implementation in C
+c-interface: tools library
+	mkdir -p $(dir $(C_INTERFACE))
+	$(CC99) -fsyntax-only -x c include/ruhitapo.h
+	g++ $(STRICT) -fsyntax-only -x c++ include/ruhitapo.h
+	$(CC99) -o $(C_INTERFACE) tests/c/*.c target/staticlib/libruhitapo.a
+	$(C_INTERFACE) $(SEED) $(CALLS)
+
+# the example that joins residues into whole numbers, held against exact integers
+joiner: tools library
+	mkdir -p $(dir $(JOINER))
+	$(CC99) -o $(JOINER) examples/joiner.c target/staticlib/libruhitapo.a
+	python3 -B tests/joiner/whole_numbers.py $(JOINER)
 
 bench: tools library $(PLAIN)
 	mkdir -p $(dir $(BENCH))
@@ -73,6 +92,7 @@ $(DEFINITIONS): $(PLAIN) $(wildcard tests/definitions/*.rs)
 tools:
 	@command -v rt >/dev/null || { echo 'rt is missing: install the Rattle toolchain first' >&2; exit 1; }
 	@command -v rustc >/dev/null || { apt-get update && apt-get install -y rustc; }
+	@command -v gcc >/dev/null && command -v g++ >/dev/null || { apt-get update && apt-get install -y gcc g++; }
 	@command -v python3 >/dev/null || { apt-get update && apt-get install -y python3; }
 
 clean:
