@@ -8,11 +8,12 @@ DEFINITIONS := target/tests/definitions
 LINKED := target/tests/linked
 BENCH := target/tests/bench
 C_INTERFACE := target/tests/c_interface
-JOINER := target/examples/joiner
+EXAMPLES := target/examples
 PLAIN := $(wildcard tests/second/*.rs tests/second/*/*.rs)
 RUSTC := rustc --edition 2021 -O -D warnings
 STRICT := -Wall -Wextra -Werror -pedantic
 CC99 := gcc -std=c99 -O2 $(STRICT) -Iinclude
+ARCHIVE := target/staticlib/libruhitapo.a
 LINK := -L target/staticlib -l static=ruhitapo -l static=trial
 SEED := 1
 CALLS := 24000
@@ -43,19 +44,22 @@ linked: tools library $(PLAIN)
 	$(RUSTC) $(LINK) -o $(LINKED) tests/linked/main.rs
 	$(LINKED) $(SEED)
 
-# the C interface: its header as C and as C++, and seeded calls held against a plain implementation in C
+# the C interface: its header as C and as C++, seeded calls held against a plain implementation in C, and the example of its page
 c-interface: tools library
-	mkdir -p $(dir $(C_INTERFACE))
+	mkdir -p $(dir $(C_INTERFACE)) $(EXAMPLES)
 	$(CC99) -fsyntax-only -x c include/ruhitapo.h
 	g++ $(STRICT) -fsyntax-only -x c++ include/ruhitapo.h
-	$(CC99) -o $(C_INTERFACE) tests/c/*.c target/staticlib/libruhitapo.a
+	$(CC99) -o $(C_INTERFACE) tests/c/*.c $(ARCHIVE)
 	$(C_INTERFACE) $(SEED) $(CALLS)
+	$(CC99) -o $(EXAMPLES)/compose examples/compose.c $(ARCHIVE)
+	python3 -B tests/c/shown.py docs/C-INTERFACE.md examples/compose.c
+	test "$$($(EXAMPLES)/compose | tr '\n' ' ')" = 'ok 4 8 1 2 5 6 2147483647 '
 
 # the example that joins residues into whole numbers, held against exact integers
 joiner: tools library
-	mkdir -p $(dir $(JOINER))
-	$(CC99) -o $(JOINER) examples/joiner.c target/staticlib/libruhitapo.a
-	python3 -B tests/joiner/whole_numbers.py $(JOINER)
+	mkdir -p $(EXAMPLES)
+	$(CC99) -o $(EXAMPLES)/joiner examples/joiner.c $(ARCHIVE)
+	python3 -B tests/joiner/whole_numbers.py $(EXAMPLES)/joiner
 
 bench: tools library $(PLAIN)
 	mkdir -p $(dir $(BENCH))

@@ -40,9 +40,10 @@ static void stop(const char *what, const char *words)
     exit(1);
 }
 
+/* Memory of zeros. */
 static void *memory(size_t bytes)
 {
-    void *found = malloc(bytes);
+    void *found = calloc(bytes, 1);
     if (found == NULL)
         stop("out of memory", "");
     return found;

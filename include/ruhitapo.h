@@ -7,8 +7,8 @@
  * For every call, a refused one too:
  *   - a pointer is aligned for what it points to and is not null, where the count is 0 also. For an empty list pass the address of any
  *     object of the type; nothing is read or written there;
- *   - a list that is only read (const) has as many readable places as its count says, each written to before, and one that is lent to be
- *     written (out, work, text) as many writable places, with any content;
+ *   - a list has as many places as its count says, readable, and writable too if it is lent to be written (out, work, text). Every place
+ *     was written to before, by calloc for instance; what it holds does not matter in a list that is lent to be written;
  *   - out, work and text overlap no other list of the call. Lists that are only read may overlap each other, or be the same;
  *   - nothing else changes a list of the call until it returns.
  *

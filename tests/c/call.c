@@ -11,6 +11,7 @@
 struct tally tally;
 char call_words[512];
 
+static const struct call *current;
 static struct fence f_fence, g_fence, out_fence, work_fence, text_fence;
 static char text[MOST_TEXT];
 
@@ -28,10 +29,23 @@ static enum side side(const struct call *c, unsigned list)
     return (c->sides >> list) % 2 == 1 ? AT_THE_END : AT_THE_BEGINNING;
 }
 
+static void print_list(const char *name, const uint32_t *list, size_t count)
+{
+    size_t i;
+    printf("  %s:", name);
+    for (i = 0; i < count && i < 40; i++)
+        printf(" %" PRIu32, list[i]);
+    printf(count > 40 ? " and on\n" : "\n");
+}
+
+/* The first ten differences are printed with their calls. */
 static void different(const char *what)
 {
-    if (tally.differences++ < 10)
-        printf("DIFFERENCE in %s\n  %s\n", what, call_words);
+    if (tally.differences++ >= 10)
+        return;
+    printf("DIFFERENCE in %s\n  %s\n", what, call_words);
+    print_list("f", current->f, current->f_count);
+    print_list("g", current->g, current->g_count);
 }
 
 static void compare(const char *what, uint64_t expected, uint64_t found)
@@ -147,6 +161,7 @@ static void describe(const struct call *c)
 void call_make(const struct call *call)
 {
     static void (*const makes[])(const struct call *) = {make_compose, make_reverse, make_prime, make_render};
+    current = call;
     describe(call);
     makes[call->kind](call);
     tally.calls++;

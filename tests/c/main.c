@@ -36,11 +36,11 @@ static void say(const char *words)
         _exit(4);
 }
 
-/* A shut page was reached: the call read or wrote outside its lists. */
+/* A page that is shut was reached, or one that can only be read was written. */
 static void fault(int signal)
 {
     (void)signal;
-    say("FAULT: a place outside the lists was read or written\n  ");
+    say("FAULT: a place outside the lists was touched, or a list that is only read was written\n  ");
     say(call_words);
     say("\n");
     _exit(3);
