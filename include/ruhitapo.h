@@ -12,8 +12,8 @@
  *   - out, work and text overlap no other list of the call. Lists that are only read may overlap each other, or be the same;
  *   - nothing else changes a list of the call until it returns.
  *
- * A call answers with a number: 0 if it is accepted, else that of the first of its tests that fails, in the order given here, which is
- * that of the numbers. A refused call leaves every list as it was and returns 0 beside its number. No call stops the program, keeps
+ * A call answers with a number: 0 if it is accepted, else that of the first condition that holds, in the order given at the call, which
+ * is that of the numbers. A refused call leaves every list as it was and returns 0 beside its number. No call stops the program, keeps
  * anything between calls or allocates memory, so several threads may call at a time, each with its own out, work and text.
  */
 #ifndef RUHITAPO_H
@@ -87,7 +87,7 @@ typedef struct ruhitapo_text_answer {
 /*
  * f(g) modulo x^n over the integers modulo p, by the route named.
  *
- * Tests, in this order:
+ * Refused if, tested in this order:
  *   1  route is not 1, 2, 3 or 4
  *   2  p is not prime or above 2147483647
  *   3  n is 0 or above 4096
@@ -110,7 +110,7 @@ ruhitapo_answer ruhitapo_compose(uint32_t route, uint32_t p, size_t n,
 /*
  * The reverse series of g: the one h with constant term 0 and g(h) = x modulo x^n.
  *
- * Tests, in this order:
+ * Refused if, tested in this order:
  *   2  p is not prime or above 2147483647
  *   3  n is 0 or above 4096
  *   5  g_count is above 4096
@@ -130,7 +130,7 @@ ruhitapo_answer ruhitapo_reverse(uint32_t p, size_t n,
 /*
  * Entry `index` of the table: the sixteen largest primes below 2147483648, largest first.
  *
- * Test:
+ * Refused if:
  *   14  index is 16 or more
  */
 ruhitapo_prime_answer ruhitapo_prime(uint32_t index);
@@ -140,7 +140,7 @@ ruhitapo_prime_answer ruhitapo_prime(uint32_t index);
  * coefficients with single spaces, a line end. With any other number it is `no `, the number, a line end, and n, weight and list do not
  * matter; list is still a pointer and a count.
  *
- * Tests, in this order, 3 and 6 with number 0 only:
+ * Refused if, tested in this order, 3 and 6 with number 0 only:
  *   3  n is 0 or above 4096
  *   6  list_count is not n
  *   7  the text has more than text_count bytes
