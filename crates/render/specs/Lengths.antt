@@ -13,7 +13,7 @@ use lib.ListN.{length, getD, length-append}
 use mathlib.Core.List.{List, [], _∷_, _++_, append-assoc}
 use mathlib.Core.Path.{_≡_, refl, sym, _∙_}
 use Rattle.definition.specs.Text.{accepted, decimal, lineEnd, noLead, okLead, refused, rendered, space, spaced}
-use Rattle.render.specs.Decimal.{decimal-length}
+use Rattle.render.specs.Decimal.{decimal-length, long-length, word-length}
 
 pub spaced-one : (c : ℕ) → spaced (c ∷ []) ≡ decimal c
 unfolding spaced
@@ -33,12 +33,22 @@ spaced-length k (c ∷ d ∷ l) h below =
     let rest = spaced-length k (d ∷ l) h (λ i inside. below (suc i) (omega arith)) in
     rw (length-append, suc-mul) (omega (arith, decimal-length k c (below 0 (omega arith)) h, rest))
 
+pub length-accepted : (n weight : ℕ) (l : List ℕ) → length (accepted n weight l) ≡ 6 + length (decimal n) + length (decimal weight) + length (spaced l)
+unfolding accepted okLead
+length-accepted n weight l = simp length-append (omega arith)
+
+pub length-refused : (number : ℕ) → length (refused number) ≡ 4 + length (decimal number)
+unfolding refused noLead
+length-refused number = simp length-append (omega arith)
+
 pub accepted-length : (n weight : ℕ) (l : List ℕ) → n < 100 → weight < 2 ^ 64 → length l ≤ 64 → ((i : ℕ) → i < length l → getD l i 0 < 2 ^ 32)
     → length (rendered 0 n weight l) ≤ 731
-unfolding accepted okLead rendered
-accepted-length n weight l order word places below = ?
+unfolding rendered
+accepted-length n weight l order word places below =
+    rw length-accepted
+    (omega (arith, decimal-length 2 n order (omega arith), long-length weight word, spaced-length 10 l (omega arith) (λ i inside. omega (arith, below i inside))))
 
 pub refused-length : (number n weight : ℕ) (l : List ℕ) → 0 < number → number < 2 ^ 32 → length (rendered number n weight l) ≤ 14
-unfolding noLead refused rendered
+unfolding rendered
 refused-length zero n weight l above word = absurd (omega arith)
-refused-length (suc number) n weight l above word = ?
+refused-length (suc number) n weight l above word = rw length-refused (omega (arith, word-length (suc number) word))

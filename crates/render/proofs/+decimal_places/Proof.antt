@@ -6,7 +6,7 @@ use borrow.Fn.PlainCycle.{Measures, is, falls, and}
 use lib.ListN.{length, length-append}
 use mathlib.Core.Path.{sym, ap, _∙_}
 use Rattle.definition.specs.Text.{decimal}
-use Rattle.render.specs.Decimal.{decimal-digit, decimal-next}
+use Rattle.render.specs.Decimal.{decimal-digit, decimal-next, long-length}
 use Rattle.render.proofs.decimal_places.Reads as reads
 use Rattle.render.proofs.decimal_places.Kinds as kinds
 use Rattle.render.proofs.+decimal_places.Lts-decimal_places as lts
@@ -25,16 +25,16 @@ abbrev operands-below : ℕ → In 0 kinds.ps
 operands-below t = and 0 kinds.ps (falls 0 kinds.ps _<_ μ t) reads.Pre
 
 returns : (t : ℕ) → lts.Need-returns (operands-below t, reads.Post) (operands-at t) reads.Post
-returns t c = ?
+returns t c = rw (decimal-digit _ (c .if1 .taken))
 
 decimal-places-requires : (t : ℕ) → lts.Need-decimal-places-requires (operands-below t, reads.Post) (operands-at t) reads.Post
-decimal-places-requires t c κs = ?
+decimal-places-requires t c κs = (omega (arith, c .if1 .left, c .before .pre .0), tt)
 
 add-result : (t : ℕ) → lts.Need-add-result (operands-below t, reads.Post) (operands-at t) reads.Post
-add-result t c = ?
+add-result t c = omega (arith, c .decimal-places .ensures, long-length (c .before .before .args .v / 10) (omega arith))
 
 returns-2 : (t : ℕ) → lts.Need-returns-2 (operands-below t, reads.Post) (operands-at t) reads.Post
-returns-2 t c = ?
+returns-2 t c = rw (decimal-next _ (c .before .if1 .left), length-append, c .decimal-places .ensures)
 
 pub +decimal-places-spec : {M : Type 1} → statement M
 +decimal-places-spec =

@@ -32,7 +32,10 @@ abbrev claims : ℕ → lts.Claims
 claims t = (digit-reads.Asked, digit-reads.Learnt, operands-below t, reads.Post)
 
 write-digit-requires : (t : ℕ) → lts.Need-write-digit-requires (claims t) (operands-at t) reads.Post
-write-digit-requires t c κs = ?
+write-digit-requires t c κs =
+    let begin = c .before .before .before in
+    let one = decimal-digit (begin .args .v) (c .before .if1 .taken) in
+    (c .before .if1 .taken, omega (arith, ap length one, begin .pre .1))
 
 same-length : (t : ℕ) → lts.Need-same-length (claims t) (operands-at t) reads.Post
 same-length t c = search needs
@@ -41,7 +44,10 @@ returns : (t : ℕ) → lts.Need-returns (claims t) (operands-at t) reads.Post
 returns t c = ?
 
 write-decimal-requires : (t : ℕ) → lts.Need-write-decimal-requires (claims t) (operands-at t) reads.Post
-write-decimal-requires t c κs = ?
+write-decimal-requires t c κs =
+    let begin = c .before .before .before in
+    let next = decimal-next (begin .args .v) (c .before .if1 .left) in
+    (omega (arith, c .before .if1 .left, begin .pre .0), omega (arith, simp length-append at (ap length next), begin .pre .1))
 
 write-digit-requires-2 : (t : ℕ) → lts.Need-write-digit-requires-2 (claims t) (operands-at t) reads.Post
 write-digit-requires-2 t c κs = ?

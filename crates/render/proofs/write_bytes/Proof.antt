@@ -34,7 +34,10 @@ loop-less : tie.Need-loop-less Inv-loop μ-loop
 loop-less c = search needs
 
 loop-again : tie.Need-loop-again Inv-loop μ-loop
-loop-again c = (search needs, search needs, ?)
+loop-again c =
+    let begin = c .before .before .before in
+    let turn = c .before .before .loop in
+    (search needs, search needs, rw (turn .inv .2) (sets-take (begin .args .text .now) (begin .args .at) (begin .args .bytes .now) (turn .i) 0 (omega arith)))
 
 add-result : tie.Need-add-result Inv-loop μ-loop
 add-result c = search needs
@@ -43,7 +46,9 @@ same-length : tie.Need-same-length Inv-loop μ-loop
 same-length c = search needs
 
 returns : tie.Need-returns Inv-loop μ-loop
-returns c = ?
+returns c =
+    let all : c .before .loop .i ≡ length (c .before .before .args .bytes .now) = omega arith in
+    record { holds = c .before .loop .inv .2 ∙ rw (all, take-length); ends = rw all }
 
 pub write-bytes-spec : {M : Type 1} → statement M
 write-bytes-spec =
