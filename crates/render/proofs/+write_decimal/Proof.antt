@@ -1,14 +1,15 @@
 -- `render::write_decimal` meets its contract. The measure is the number. Assumes nothing.
 use borrow.Author.Needs.{needs}
 use native.Mathlib.Omega.{arith}
-use Prim.Native.Nat.{ℕ, _+_, _/_, _<_, _≤_}
+use Prim.Native.Nat.{ℕ, _+_, _/_, _%_, _<_, _≤_}
 use borrow.Fn.Kinds.{In}
 use borrow.Fn.PlainCycle.{Measures, is, falls, and}
 use lib.ListN.{length, length-append}
+use mathlib.Core.List.{[], _∷_}
 use mathlib.Core.Path.{sym, ap, _∙_}
 use Rattle.definition.specs.Text.{decimal}
 use Rattle.render.specs.Decimal.{decimal-digit, decimal-next}
-use Rattle.render.specs.Writing.{written-append}
+use Rattle.render.specs.Writing.{room, written-append}
 use Rattle.render.proofs.write_decimal.Reads as reads
 use Rattle.render.proofs.write_decimal.Kinds as kinds
 use Rattle.render.proofs.+write_decimal.Lts-write_decimal as lts
@@ -41,7 +42,7 @@ same-length : (t : ℕ) → lts.Need-same-length (claims t) (operands-at t) read
 same-length t c = search needs
 
 returns : (t : ℕ) → lts.Need-returns (claims t) (operands-at t) reads.Post
-returns t c = ?
+returns t c = rw (decimal-digit _ (c .before .before .before .before .if1 .taken)) (c .before .before .write-digit .ensures)
 
 write-decimal-requires : (t : ℕ) → lts.Need-write-decimal-requires (claims t) (operands-at t) reads.Post
 write-decimal-requires t c κs =
@@ -50,13 +51,23 @@ write-decimal-requires t c κs =
     (omega (arith, c .before .if1 .left, begin .pre .0), omega (arith, simp length-append at (ap length next), begin .pre .1))
 
 write-digit-requires-2 : (t : ℕ) → lts.Need-write-digit-requires-2 (claims t) (operands-at t) reads.Post
-write-digit-requires-2 t c κs = ?
+write-digit-requires-2 t c κs =
+    let written = c .before .before .before in
+    let above = written .before .before in
+    let begin = above .before .before in
+    let next = decimal-next (begin .args .v) (above .if1 .left) in
+    let fits = rw next at (begin .pre .1) in
+    let left = room (decimal (begin .args .v / 10)) ((48 + begin .args .v % 10) ∷ []) (written .write-decimal .ensures) fits in
+    (omega arith, omega (arith, left))
 
 same-length-2 : (t : ℕ) → lts.Need-same-length-2 (claims t) (operands-at t) reads.Post
 same-length-2 t c = search needs
 
 returns-2 : (t : ℕ) → lts.Need-returns-2 (claims t) (operands-at t) reads.Post
-returns-2 t c = ?
+returns-2 t c =
+    let written = c .before .before .before .before .before .before in
+    let above = written .before .before in
+    rw (decimal-next _ (above .if1 .left)) (written-append _ _ (written .write-decimal .ensures) (c .before .before .write-digit2 .ensures))
 
 pub +write-decimal-spec : {M : Type 1} → statement M
 +write-decimal-spec =
