@@ -1,5 +1,5 @@
-// The calls as C functions: compose, reverse and the table of primes. A slice passes as its pointer and its count.
-ghost use Rattle.definition.specs.Calls.{Compose, Reverse, Table};
+// The C interface: compose, reverse, the table of primes and rendering as C functions. A slice passes as its pointer and its count.
+ghost use Rattle.definition.specs.Calls.{Compose, Render, Reverse, Table};
 
 // f(g) modulo x^n over the integers modulo p, by the route named.
 #[no_mangle]
@@ -39,4 +39,18 @@ pub extern "C" fn ruhitapo_prime(index: u32) -> primes::Answer
     ensures { λ r. ⌜ Table index (r .number) (r .prime) ⌝ }
 {
     primes::prime(index)
+}
+
+// The printed answer for a refusal number, or for 0 with order, weight and coefficients.
+#[no_mangle]
+pub extern "C" fn ruhitapo_render(
+    number: u32,
+    n: usize,
+    weight: u64,
+    list: &[u32],
+    text: &mut [u8],
+) -> render::Answer
+    ensures { λ r. ⌜ Render number n weight (now (list .entry)) (now (text .entry)) (now (text .exit)) (r .number) (r .count) ⌝ }
+{
+    render::render(number, n, weight, list, text)
 }
