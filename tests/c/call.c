@@ -48,7 +48,7 @@ static void different(const char *what)
     print_list("g", current->g, current->g_count);
 }
 
-static void compare(const char *what, uint64_t expected, uint64_t found)
+void call_compare(const char *what, uint64_t expected, uint64_t found)
 {
     char words[128];
     tally.comparisons++;
@@ -73,7 +73,7 @@ static void compare_buffer(const char *what, const struct fence *fence, size_t p
 /* The number that came back is the one expected; it is counted. */
 static void compare_number(const struct call *c, uint32_t expected, uint32_t found)
 {
-    compare("number", expected, found);
+    call_compare("number", expected, found);
     if (expected < 15)
         tally.returned[c->kind][expected]++;
 }
@@ -100,7 +100,7 @@ static void make_compose(const struct call *c)
     ruhitapo_answer answer = ruhitapo_compose(c->route, c->p, c->n, f, c->f_count, g, c->g_count,
                                               out, c->out_count, work, c->work_count);
     compare_number(c, number, answer.number);
-    compare("weight", number == 0 ? plain_weight(c->route, c->p, c->n, c->f_count) : 0, answer.weight);
+    call_compare("weight", number == 0 ? plain_weight(c->route, c->p, c->n, c->f_count) : 0, answer.weight);
     if (number == 0)
         plain_compose(c->p, c->n, f, c->f_count, g, c->g_count, fence_expected(&out_fence));
     compare_buffer("output", &out_fence, sizeof *out);
@@ -115,7 +115,7 @@ static void make_reverse(const struct call *c)
     uint32_t number = plain_reverse_number(c->p, c->n, g, c->g_count, c->out_count, c->work_count);
     ruhitapo_answer answer = ruhitapo_reverse(c->p, c->n, g, c->g_count, out, c->out_count, work, c->work_count);
     compare_number(c, number, answer.number);
-    compare("weight", 0, answer.weight);
+    call_compare("weight", 0, answer.weight);
     if (number == 0)
         plain_reverse(c->p, c->n, g, c->g_count, fence_expected(&out_fence));
     compare_buffer("output", &out_fence, sizeof *out);
@@ -126,7 +126,7 @@ static void make_prime(const struct call *c)
 {
     ruhitapo_prime_answer answer = ruhitapo_prime(c->index);
     compare_number(c, c->index < 16 ? 0 : 14, answer.number);
-    compare("prime", c->index < 16 ? plain_table(c->index) : 0, answer.prime);
+    call_compare("prime", c->index < 16 ? plain_table(c->index) : 0, answer.prime);
 }
 
 size_t call_text_bytes(const struct call *c)
@@ -142,7 +142,7 @@ static void make_render(const struct call *c)
     uint32_t number = plain_render_number(c->number, c->n, c->g_count, bytes, c->text_count);
     ruhitapo_text_answer answer = ruhitapo_render(c->number, c->n, c->weight, list, c->g_count, lent, c->text_count);
     compare_number(c, number, answer.number);
-    compare("count", number == 0 ? bytes : 0, answer.count);
+    call_compare("count", number == 0 ? bytes : 0, answer.count);
     if (number == 0)
         memcpy(fence_expected(&text_fence), text, bytes);
     compare_buffer("text", &text_fence, 1);

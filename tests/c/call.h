@@ -39,6 +39,9 @@ void call_begin(void);
 /* Makes the call and compares number, weight or count, and every place of every buffer. */
 void call_make(const struct call *call);
 
+/* Compares two numbers. */
+void call_compare(const char *what, uint64_t expected, uint64_t found);
+
 /* The bytes of the text of a rendering. */
 size_t call_text_bytes(const struct call *call);
 

@@ -1,6 +1,7 @@
 /* The edges of every test: each row is a call at one side of an edge. */
 #include "cases.h"
 #include "random.h"
+#include "ruhitapo.h"
 
 #include <string.h>
 
@@ -67,12 +68,16 @@ static void fill_lists(struct call *c, const struct edge *e)
 /* A row for rendering; BELOW asks for the longest text. */
 static void fill_rendering(struct call *c, const struct edge *e)
 {
+    size_t bytes;
     c->number = e->route;
     c->weight = e->last == BELOW ? UINT64_MAX : random_word();
     random_list(UINT32_MAX, c->g, MOST_PLACES);
     if (e->last == BELOW)
         memset(c->g, 255, sizeof c->g);
-    c->text_count = call_text_bytes(c) + (size_t)e->work_more;
+    bytes = call_text_bytes(c);
+    if (e->last == BELOW)
+        call_compare("bytes of the longest text", RUHITAPO_MOST_TEXT_BYTES, bytes);
+    c->text_count = bytes + (size_t)e->work_more;
 }
 
 static void fill(struct call *c, const struct edge *e)
