@@ -1,53 +1,93 @@
-# make test   the gate: formatting, the comparison tests, the proofs, the must-fail edits and the programs
-# make run    the job program on the whole case of document 01; until the program exists, the settled examples
+# make test   the gate: formatting, every proof, every must-fail edit, every program, the comparison tests. Last line: 'N passed, 0 failed'
+# make run    the job program on the whole case of document 01; 'make run JOB=file' on another job file
+# make library  the C library, target/staticlib/libruhitapo.a
 # make bench  each route, an opening and reversion beside the straightforward code of the second implementation and beside FLINT, as ratios
 #             and as the picture target/bench.svg; no part of the gate
 # make flint  installs FLINT for the benchmark, which does without it where it is missing
 # make clean  removes target/, where everything that is built stands
+#
+# The steps of the gate are targets of their own; those that draw at random take SEED, as 'make linked SEED=7', and c-interface CALLS too.
 
 SECOND := target/tests/second
 DEFINITIONS := target/tests/definitions
 LINKED := target/tests/linked
 BENCH := target/tests/bench
+C_INTERFACE := target/tests/c_interface
+EXAMPLES := target/examples
 PLAIN := $(wildcard tests/second/*.rs tests/second/*/*.rs)
 RUSTC := rustc --edition 2021 -O -D warnings
-LINK := -L target/staticlib -l static=trial
-FLINT = $(shell cc -E -include flint/nmod_poly.h -x c /dev/null >/dev/null 2>&1 && echo -lflint)
+PROGRAM := target/bin/job_program
+JOB := crates/job_program/stdin
+STRICT := -Wall -Wextra -Werror -pedantic
+CC99 := gcc -std=c99 -O2 $(STRICT) -Iinclude
+ARCHIVE := target/staticlib/libruhitapo.a
+LINK := -L target/staticlib -l static=ruhitapo -l static=trial
+FLINT = $(shell gcc -E -include flint/nmod_poly.h -x c /dev/null >/dev/null 2>&1 && echo -lflint)
+# what the tests in Rust are written in
+RUST := 1.87
 SEED := 1
+CALLS := 24000
 
-.PHONY: test run bench flint job-tool clean formatted trace second linked library definitions wrong-definitions tools
+.PHONY: test run program bench flint clean tools
+.PHONY: formatted trace proofs second definitions wrong-definitions library linked c-interface joiner job-tool
 
-test: tools formatted trace job-tool second wrong-definitions linked
-	rt ci
+test: tools
+	python3 tests/gate.py
 
-run: tools
-	@echo 'The job program does not exist yet. In its place: the settled examples and the whole case of 01, proved of the definitions.'
-	rt check settled
+run: program
+	@$(PROGRAM) < $(JOB)
+
+# the job program, which is proved before it is built
+program: tools
+	@mkdir -p target
+	@echo 'proving and building the job program; what is proved already is not proved again' >&2
+	@rt check job_program > target/program.log || { cat target/program.log; false; }
 
 formatted: tools
 	rt fmt --check
 
-# every name that docs/TRACE.md gives stands where it says
+# every name that the tables of docs/TRACE.md and docs/GUARANTEES.md give stands where they say
 trace: tools
 	python3 tests/trace/names.py
 
-# the tool that writes and shows job files
-job-tool: tools
-	python3 tests/tools/job_tool.py
+# from nothing: every crate is proved, every must-fail edit refused, every program run on its stored input
+proofs: tools
+	rt ci
+
+# the tool that writes and shows job files, and what it says of a file against the job program
+job-tool: program
+	python3 -B tests/tools/job_tool.py $(PROGRAM)
 
 # the plain second implementation checks itself
 second: tools $(SECOND)
 	$(SECOND) $(SEED)
 
-# the calls of the proved library, linked, held against the second implementation
-linked: tools library $(PLAIN)
+# the calls of the proved library, linked, and the job program, held against the second implementation
+linked: library program $(PLAIN)
 	mkdir -p $(dir $(LINKED))
 	$(RUSTC) $(LINK) -o $(LINKED) tests/linked/main.rs
 	$(LINKED) $(SEED)
 
-bench: tools library $(PLAIN)
+# the C interface: its header as C and as C++, seeded calls held against a plain implementation in C, and the example of its page
+c-interface: library
+	mkdir -p $(dir $(C_INTERFACE)) $(EXAMPLES)
+	$(CC99) -fsyntax-only -x c include/ruhitapo.h
+	g++ $(STRICT) -fsyntax-only -x c++ include/ruhitapo.h
+	$(CC99) -o $(C_INTERFACE) tests/c/*.c $(ARCHIVE)
+	$(C_INTERFACE) $(SEED) $(CALLS)
+	$(CC99) -o $(EXAMPLES)/compose examples/compose.c $(ARCHIVE)
+	python3 -B tests/c/shown.py docs/C-INTERFACE.md examples/compose.c
+	test "$$($(EXAMPLES)/compose | tr '\n' ' ')" = 'ok 4 8 1 2 5 6 2147483647 '
+
+# the example that joins residues into whole numbers, held against exact integers
+joiner: library
+	mkdir -p $(EXAMPLES)
+	$(CC99) -o $(EXAMPLES)/joiner examples/joiner.c $(ARCHIVE)
+	python3 -B tests/joiner/whole_numbers.py $(EXAMPLES)/joiner
+
+bench: library $(PLAIN)
 	mkdir -p $(dir $(BENCH))
-	cc -O2 -c -o $(BENCH)-flint.o tests/bench/flint.c
+	gcc -O2 -c -o $(BENCH)-flint.o tests/bench/flint.c
 	$(RUSTC) $(LINK) -C link-args='$(BENCH)-flint.o $(FLINT)' -o $(BENCH) tests/bench/main.rs
 	$(BENCH) target/bench.svg
 
@@ -55,8 +95,9 @@ bench: tools library $(PLAIN)
 flint:
 	apt-get update && apt-get install -y libflint-dev
 
-# the static library, which is proved before it is written
+# the static libraries, each proved before it is written: the C interface, and the calls of a chain for the comparison tests
 library: tools
+	rt staticlib ruhitapo
 	rt staticlib trial
 
 # the definitions, held against the second implementation: the prover computes seeded equations in a repository of their own
@@ -84,6 +125,8 @@ $(DEFINITIONS): $(PLAIN) $(wildcard tests/definitions/*.rs)
 tools:
 	@command -v rt >/dev/null || { echo 'rt is missing: install the Rattle toolchain first' >&2; exit 1; }
 	@command -v rustc >/dev/null || { apt-get update && apt-get install -y rustc; }
+	@printf '%s\n%s\n' $(RUST) "$$(rustc --version | cut -d ' ' -f 2)" | sort -VC || { echo 'rustc is older than $(RUST)' >&2; exit 1; }
+	@command -v gcc >/dev/null && command -v g++ >/dev/null || { apt-get update && apt-get install -y gcc g++; }
 	@command -v python3 >/dev/null || { apt-get update && apt-get install -y python3; }
 
 clean:

@@ -1,4 +1,4 @@
-//! The calls of the static library.
+//! The calls of the static libraries: compose and reverse of the C interface, opening and cycle of `trial`.
 
 use crate::checks::library::Library;
 use crate::plain::calls::Answer;
@@ -21,7 +21,7 @@ struct ChainAnswer {
 
 // A list passes as its pointer and its count.
 extern "C" {
-    fn trial_compose(
+    fn ruhitapo_compose(
         route: u32,
         p: u32,
         n: usize,
@@ -35,7 +35,7 @@ extern "C" {
         work_count: usize,
     ) -> CallAnswer;
 
-    fn trial_reverse(
+    fn ruhitapo_reverse(
         p: u32,
         n: usize,
         g: *const u32,
@@ -62,7 +62,7 @@ extern "C" {
     ) -> ChainAnswer;
 }
 
-/// The linked library.
+/// The linked libraries.
 pub struct Linked;
 
 // SAFETY of each call: a list passes as its pointer and its count, and no two of them overlap.
@@ -81,7 +81,7 @@ impl Library for Linked {
         let (out_count, work_count) = (out.len(), work.len());
         let (out, work) = (out.as_mut_ptr(), work.as_mut_ptr());
         answer(unsafe {
-            trial_compose(route, p, n, f, f_count, g, g_count, out, out_count, work, work_count)
+            ruhitapo_compose(route, p, n, f, f_count, g, g_count, out, out_count, work, work_count)
         })
     }
 
@@ -89,7 +89,7 @@ impl Library for Linked {
         let (p, n, g, g_count) = (word(p), n as usize, g.as_ptr(), g.len());
         let (out_count, work_count) = (out.len(), work.len());
         let (out, work) = (out.as_mut_ptr(), work.as_mut_ptr());
-        answer(unsafe { trial_reverse(p, n, g, g_count, out, out_count, work, work_count) })
+        answer(unsafe { ruhitapo_reverse(p, n, g, g_count, out, out_count, work, work_count) })
     }
 
     fn open(p: u64, n: u64, running: &mut [u32]) -> (Chain, Answer) {

@@ -1,6 +1,7 @@
 -- The number of a list of tests, and what each test tells where it does not fire.
 --
 --   fieldTests routedTests   the tests that many calls begin with
+--   listTests                the tests that rendering makes of order and list
 --   numberAfter earlier ts   the number of the tests ts where those before them have the number `earlier`
 --   absent r ts              no test of the list has the number r
 --   Passed ts                no test of the list fires
@@ -9,6 +10,8 @@
 --   followed                 a list, and then further tests
 --   either                   two tests of one number that follow each other are one
 --   passed                   the first k tests did not fire, where none of them has the number of the list
+--   first-passed             the number of a list of which no test fires
+--   first-same               what follows a list of tests counts only where no test of the list fires
 --   fired                    a last test whose number is the number of the list fired
 --   factor-fits short-factor short-rest   the test of the places of work, in steps that fit a word
 --   either-false             of two tests that are one, neither fired
@@ -32,6 +35,9 @@ fieldTests p n = test 2 (badModulus p) ∷ test 3 (badOrder n) ∷ []
 
 abbrev pub routedTests : ℕ → ℕ → ℕ → List Test
 routedTests route p n = test 1 (badRoute route) ∷ fieldTests p n
+
+abbrev pub listTests : ℕ → ℕ → ℕ → List Test
+listTests number n places = test 3 (eqb number 0 && badOrder n) ∷ test 6 (eqb number 0 && notPlaces n places) ∷ []
 
 unfoldable pub numberAfter : ℕ → List Test → ℕ
 numberAfter zero ts = first ts
@@ -100,6 +106,21 @@ passed (suc k) (t ∷ ts) {r} h none =
         → ((b ≡ false) × Passed (take k ts)) × (first (drop k ts) ≡ r)
     step true h other rest = absurd (other h)
     step false h other rest = ((refl, rest h .0), rest h .1)
+
+pub first-passed : (ts : List Test) → Passed ts → first ts ≡ 0
+unfolding first Passed
+first-passed [] h = refl
+first-passed (t ∷ ts) h = rw (h .0) (first-passed ts (h .1))
+
+pub first-same : (ts us vs : List Test) → (Passed ts → first us ≡ first vs) → first (ts ++ us) ≡ first (ts ++ vs)
+unfolding first Passed
+first-same [] us vs h = h tt
+first-same (t ∷ ts) us vs h = step (t .fires) refl (λ p. first-same ts us vs p)
+  where
+    step : (b : Bool) → t .fires ≡ b → ((Passed ts → first us ≡ first vs) → first (ts ++ us) ≡ first (ts ++ vs))
+        → cond b (t .number) (first (ts ++ us)) ≡ cond b (t .number) (first (ts ++ vs))
+    step true e rest = refl
+    step false e rest = rest (λ p. h (e, p))
 
 pub fired : (n : ℕ) (b : Bool) → eqb 0 n ≡ false → first (test n b ∷ []) ≡ n → b ≡ true
 unfolding first test

@@ -1,7 +1,6 @@
-// The calls as C functions, for the comparison tests and the benchmark. A chain record passes as its three numbers.
+// The calls of a chain as C functions, for the comparison tests and the benchmark. A chain record passes as its three numbers.
 use chain::Chain;
-use refusal::Answer;
-ghost use Rattle.definition.specs.Calls.{Compose, Cycle, Open, Reverse};
+ghost use Rattle.definition.specs.Calls.{Cycle, Open};
 
 // A chain record with the answer of the call that left it.
 #[repr(C)]
@@ -11,38 +10,6 @@ pub struct ChainAnswer {
     pub done: u32,
     pub number: u32,
     pub weight: u64,
-}
-
-// The call compose.
-#[no_mangle]
-pub extern "C" fn trial_compose(
-    route: u32,
-    p: u32,
-    n: usize,
-    f: &[u32],
-    g: &[u32],
-    out: &mut [u32],
-    work: &mut [u32],
-) -> Answer
-    ensures { λ r. ⌜ Compose route p n (now (f .entry)) (now (g .entry)) (now (out .entry)) (now (out .exit))
-        (now (work .entry)) (now (work .exit)) (r .number) (r .weight) ⌝ }
-{
-    compose::compose(route, p, n, f, g, out, work)
-}
-
-// The call reverse.
-#[no_mangle]
-pub extern "C" fn trial_reverse(
-    p: u32,
-    n: usize,
-    g: &[u32],
-    out: &mut [u32],
-    work: &mut [u32],
-) -> Answer
-    ensures { λ r. ⌜ Reverse p n (now (g .entry)) (now (out .entry)) (now (out .exit)) (now (work .entry)) (now (work .exit))
-        (r .number) (r .weight) ⌝ }
-{
-    reversion::reverse(p, n, g, out, work)
 }
 
 // Opening a chain.

@@ -1,0 +1,56 @@
+// The C interface: compose, reverse, the table of primes and rendering as C functions. A slice passes as its pointer and its count.
+ghost use Rattle.definition.specs.Calls.{Compose, Render, Reverse, Table};
+
+// f(g) modulo x^n over the integers modulo p, by the route named.
+#[no_mangle]
+pub extern "C" fn ruhitapo_compose(
+    route: u32,
+    p: u32,
+    n: usize,
+    f: &[u32],
+    g: &[u32],
+    out: &mut [u32],
+    work: &mut [u32],
+) -> refusal::Answer
+    ensures { λ r. ⌜ Compose route p n (now (f .entry)) (now (g .entry)) (now (out .entry)) (now (out .exit))
+        (now (work .entry)) (now (work .exit)) (r .number) (r .weight) ⌝ }
+{
+    compose::compose(route, p, n, f, g, out, work)
+}
+
+// The reverse series of g modulo x^n.
+#[no_mangle]
+pub extern "C" fn ruhitapo_reverse(
+    p: u32,
+    n: usize,
+    g: &[u32],
+    out: &mut [u32],
+    work: &mut [u32],
+) -> refusal::Answer
+    ensures { λ r. ⌜ Reverse p n (now (g .entry)) (now (out .entry)) (now (out .exit)) (now (work .entry)) (now (work .exit))
+        (r .number) (r .weight) ⌝ }
+{
+    reversion::reverse(p, n, g, out, work)
+}
+
+// Entry `index` of the table of the sixteen primes.
+#[no_mangle]
+pub extern "C" fn ruhitapo_prime(index: u32) -> primes::Answer
+    ensures { λ r. ⌜ Table index (r .number) (r .prime) ⌝ }
+{
+    primes::prime(index)
+}
+
+// The printed answer for a refusal number, or for 0 with order, weight and coefficients.
+#[no_mangle]
+pub extern "C" fn ruhitapo_render(
+    number: u32,
+    n: usize,
+    weight: u64,
+    list: &[u32],
+    text: &mut [u8],
+) -> render::Answer
+    ensures { λ r. ⌜ Render number n weight (now (list .entry)) (now (text .entry)) (now (text .exit)) (r .number) (r .count) ⌝ }
+{
+    render::render(number, n, weight, list, text)
+}

@@ -1,0 +1,159 @@
+/*
+ * Ruhitapo: residue composition. The C interface of the proved library libruhitapo.a.
+ *
+ * A list is a pointer to its first place and a count of places; a series is a list of 32-bit numbers, the coefficient of power 0 first.
+ * Missing coefficients are zero. p is the modulus, n the order: results are cut to powers below n.
+ *
+ * For every call, a refused one too:
+ *   - a pointer is aligned for what it points to and is not null, where the count is 0 also. For an empty list pass the address of any
+ *     object of the type; nothing is read or written there;
+ *   - a list has as many places as its count says, readable, and writable too if it is lent to be written (out, work, text). Every place
+ *     was written to before, by calloc for instance; what it holds does not matter in a list that is lent to be written;
+ *   - out, work and text overlap no other list of the call. Lists that are only read may overlap each other, or be the same;
+ *   - nothing else changes a list of the call until it returns.
+ *
+ * A call answers with a number: 0 if it is accepted, else that of the first condition that holds, in the order given at the call, which
+ * is that of the numbers. A refused call leaves every list as it was and returns 0 beside its number. No call stops the program, keeps
+ * anything between calls or allocates memory, so several threads may call at a time, each with its own out, work and text.
+ */
+#ifndef RUHITAPO_H
+#define RUHITAPO_H
+
+#include <stddef.h>
+#include <stdint.h>
+
+#ifdef __cplusplus
+extern "C" {
+#endif
+
+/* What a call returns. 10 to 13 belong to chains of cycles and to the job program; a text that is rendered may name them. */
+enum {
+    RUHITAPO_ACCEPTED = 0,
+    RUHITAPO_BAD_ROUTE = 1,             /* the route is not 1, 2, 3 or 4 */
+    RUHITAPO_BAD_MODULUS = 2,           /* p is not prime or above 2147483647 */
+    RUHITAPO_BAD_ORDER = 3,             /* n is 0 or above 4096 */
+    RUHITAPO_OUTER_LIST_TOO_LONG = 4,   /* the outer list has more than 4096 places */
+    RUHITAPO_INNER_LIST_TOO_LONG = 5,   /* the inner list, series or cycle list has more than 4096 places */
+    RUHITAPO_NOT_N_PLACES = 6,          /* the output, running buffer or rendered list has not exactly n places */
+    RUHITAPO_BUFFER_TOO_SHORT = 7,      /* the work buffer or the text buffer is too short */
+    RUHITAPO_COEFFICIENT_TOO_LARGE = 8, /* a coefficient is p or more */
+    RUHITAPO_NO_REVERSE_SERIES = 9,     /* no reverse series exists */
+    RUHITAPO_CONSTANT_TERM = 10,        /* the cycle or the running series has a constant term */
+    RUHITAPO_CHAIN_FULL = 11,           /* 64 or more cycles are done */
+    RUHITAPO_FILE_TOO_LARGE = 12,       /* the job file, or an order or count in its header, is too large */
+    RUHITAPO_FILE_CUT_SHORT = 13,       /* the job file lacks its header or a list */
+    RUHITAPO_BAD_INDEX = 14             /* the index is 16 or more */
+};
+
+/* The routes of ruhitapo_compose. All give the same coefficients; the weights differ. */
+enum {
+    RUHITAPO_HORNER = 1,
+    RUHITAPO_RANGED = 2,
+    RUHITAPO_BERNSTEIN = 3,
+    RUHITAPO_KINOSHITA_LI = 4
+};
+
+/* Limits. */
+#define RUHITAPO_LARGEST_ORDER 4096u
+#define RUHITAPO_LONGEST_LIST 4096u
+#define RUHITAPO_LARGEST_MODULUS 2147483647u
+#define RUHITAPO_PRIMES 16u
+
+/* The places of work that compose (m the count of f) and reverse (m the count of g) ask for at order n. */
+#define RUHITAPO_WORK_PLACES(n, m) (128 * (size_t)(n) + 8 * (size_t)(m))
+
+/* As many bytes hold every text for order n, and every refusal. At the largest order they are 45085, and no text has more. */
+#define RUHITAPO_TEXT_BYTES(n) (29 + 11 * (size_t)(n))
+#define RUHITAPO_MOST_TEXT_BYTES 45085u
+
+/* What compose and reverse answer. */
+typedef struct ruhitapo_answer {
+    uint32_t number;
+    uint64_t weight;
+} ruhitapo_answer;
+
+/* What the table answers. */
+typedef struct ruhitapo_prime_answer {
+    uint32_t number;
+    uint32_t prime;
+} ruhitapo_prime_answer;
+
+/* What rendering answers. */
+typedef struct ruhitapo_text_answer {
+    uint32_t number;
+    size_t count;
+} ruhitapo_text_answer;
+
+/*
+ * f(g) modulo x^n over the integers modulo p, by the route named.
+ *
+ * Refused if, tested in this order:
+ *   1  route is not 1, 2, 3 or 4
+ *   2  p is not prime or above 2147483647
+ *   3  n is 0 or above 4096
+ *   4  f_count is above 4096
+ *   5  g_count is above 4096
+ *   6  out_count is not n
+ *   7  work_count is below 128 n + 8 f_count
+ *   8  a coefficient of f or g is p or more, in places of g from n on too
+ *
+ * Accepted: out holds the n coefficients, each below p; the first 128 n + 8 f_count places of work are zero, later ones as before; the
+ * weight is the sum over the products of the route, each counting the places that it is cut to. With an empty f the coefficients are
+ * zeros and the weight is 0.
+ */
+ruhitapo_answer ruhitapo_compose(uint32_t route, uint32_t p, size_t n,
+                                 const uint32_t *f, size_t f_count,
+                                 const uint32_t *g, size_t g_count,
+                                 uint32_t *out, size_t out_count,
+                                 uint32_t *work, size_t work_count);
+
+/*
+ * The reverse series of g: the one h with constant term 0 and g(h) = x modulo x^n.
+ *
+ * Refused if, tested in this order:
+ *   2  p is not prime or above 2147483647
+ *   3  n is 0 or above 4096
+ *   5  g_count is above 4096
+ *   6  out_count is not n
+ *   7  work_count is below 128 n + 8 g_count
+ *   8  a coefficient of g is p or more
+ *   9  the constant term of g is not zero, or n is above 1 and its linear coefficient is zero: there is no such h
+ *
+ * Accepted: out holds the n coefficients of h, each below p; the first 128 n + 8 g_count places of work are zero, later ones as before;
+ * the weight is 0. At n = 1 h is the list 0.
+ */
+ruhitapo_answer ruhitapo_reverse(uint32_t p, size_t n,
+                                 const uint32_t *g, size_t g_count,
+                                 uint32_t *out, size_t out_count,
+                                 uint32_t *work, size_t work_count);
+
+/*
+ * Entry `index` of the table: the sixteen largest primes below 2147483648, largest first.
+ *
+ * Refused if:
+ *   14  index is 16 or more
+ */
+ruhitapo_prime_answer ruhitapo_prime(uint32_t index);
+
+/*
+ * The printed answer, as bytes with no zero byte at the end. With number 0 it is `ok `, the order n, a space, the weight, a line end, the
+ * coefficients with single spaces, a line end. With any other number it is `no `, the number, a line end, and n, weight and list do not
+ * matter; list is still a pointer and a count.
+ *
+ * Refused if, tested in this order, 3 and 6 with number 0 only:
+ *   3  n is 0 or above 4096
+ *   6  list_count is not n
+ *   7  the text has more than text_count bytes
+ *
+ * Accepted: the text stands in the first `count` bytes of text; later bytes are as before. RUHITAPO_TEXT_BYTES(n) bytes always suffice.
+ * The coefficients are any 32-bit numbers.
+ */
+ruhitapo_text_answer ruhitapo_render(uint32_t number, size_t n, uint64_t weight,
+                                     const uint32_t *list, size_t list_count,
+                                     uint8_t *text, size_t text_count);
+
+#ifdef __cplusplus
+}
+#endif
+
+#endif

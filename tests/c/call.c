@@ -1,0 +1,168 @@
+/* Each call, made on fenced lists and held against the second implementation. */
+#include "call.h"
+#include "fence.h"
+#include "plain.h"
+#include "ruhitapo.h"
+
+#include <inttypes.h>
+#include <stdio.h>
+#include <string.h>
+
+struct tally tally;
+char call_words[512];
+
+static const struct call *current;
+static struct fence f_fence, g_fence, out_fence, work_fence, text_fence;
+static char text[MOST_TEXT];
+
+void call_begin(void)
+{
+    fence_make(&f_fence, MOST_PLACES * sizeof(uint32_t));
+    fence_make(&g_fence, MOST_PLACES * sizeof(uint32_t));
+    fence_make(&out_fence, MOST_PLACES * sizeof(uint32_t));
+    fence_make(&work_fence, MOST_WORK * sizeof(uint32_t));
+    fence_make(&text_fence, MOST_TEXT);
+}
+
+static enum side side(const struct call *c, unsigned list)
+{
+    return (c->sides >> list) % 2 == 1 ? AT_THE_END : AT_THE_BEGINNING;
+}
+
+static void print_list(const char *name, const uint32_t *list, size_t count)
+{
+    size_t i;
+    printf("  %s:", name);
+    for (i = 0; i < count && i < 40; i++)
+        printf(" %" PRIu32, list[i]);
+    printf(count > 40 ? " and on\n" : "\n");
+}
+
+/* The first ten differences are printed with their calls. */
+static void different(const char *what)
+{
+    if (tally.differences++ >= 10)
+        return;
+    printf("DIFFERENCE in %s\n  %s\n", what, call_words);
+    print_list("f", current->f, current->f_count);
+    print_list("g", current->g, current->g_count);
+}
+
+void call_compare(const char *what, uint64_t expected, uint64_t found)
+{
+    char words[128];
+    tally.comparisons++;
+    if (expected == found)
+        return;
+    snprintf(words, sizeof words, "%s: expected %" PRIu64 ", returned %" PRIu64, what, expected, found);
+    different(words);
+}
+
+static void compare_buffer(const char *what, const struct fence *fence, size_t place_bytes)
+{
+    char words[128];
+    int same;
+    ptrdiff_t at = fence_difference(fence, &same);
+    tally.comparisons += fence->bytes / place_bytes;
+    if (same)
+        return;
+    snprintf(words, sizeof words, "%s: byte %td, in places of %zu bytes, of %zu bytes", what, at, place_bytes, fence->bytes);
+    different(words);
+}
+
+/* The number that came back is the one expected; it is counted. */
+static void compare_number(const struct call *c, uint32_t expected, uint32_t found)
+{
+    call_compare("number", expected, found);
+    if (expected < 15)
+        tally.returned[c->kind][expected]++;
+}
+
+static const uint32_t *inner_list(const struct call *c, const uint32_t *f)
+{
+    return c->g_in_f ? f : fence_list(&g_fence, c->g, c->g_count * sizeof *c->g, side(c, 1));
+}
+
+static void compare_work(size_t n, size_t m, uint32_t number)
+{
+    if (number == 0)
+        memset(fence_expected(&work_fence), 0, (128 * n + 8 * m) * sizeof(uint32_t));
+    compare_buffer("work", &work_fence, sizeof(uint32_t));
+}
+
+static void make_compose(const struct call *c)
+{
+    const uint32_t *f = fence_list(&f_fence, c->f, c->f_count * sizeof *f, side(c, 0));
+    const uint32_t *g = inner_list(c, f);
+    uint32_t *out = fence_lend(&out_fence, c->out_count * sizeof *out, side(c, 2));
+    uint32_t *work = fence_lend(&work_fence, c->work_count * sizeof *work, side(c, 3));
+    uint32_t number = plain_compose_number(c->route, c->p, c->n, f, c->f_count, g, c->g_count, c->out_count, c->work_count);
+    ruhitapo_answer answer = ruhitapo_compose(c->route, c->p, c->n, f, c->f_count, g, c->g_count,
+                                              out, c->out_count, work, c->work_count);
+    compare_number(c, number, answer.number);
+    call_compare("weight", number == 0 ? plain_weight(c->route, c->p, c->n, c->f_count) : 0, answer.weight);
+    if (number == 0)
+        plain_compose(c->p, c->n, f, c->f_count, g, c->g_count, fence_expected(&out_fence));
+    compare_buffer("output", &out_fence, sizeof *out);
+    compare_work(c->n, c->f_count, number);
+}
+
+static void make_reverse(const struct call *c)
+{
+    const uint32_t *g = inner_list(c, NULL);
+    uint32_t *out = fence_lend(&out_fence, c->out_count * sizeof *out, side(c, 2));
+    uint32_t *work = fence_lend(&work_fence, c->work_count * sizeof *work, side(c, 3));
+    uint32_t number = plain_reverse_number(c->p, c->n, g, c->g_count, c->out_count, c->work_count);
+    ruhitapo_answer answer = ruhitapo_reverse(c->p, c->n, g, c->g_count, out, c->out_count, work, c->work_count);
+    compare_number(c, number, answer.number);
+    call_compare("weight", 0, answer.weight);
+    if (number == 0)
+        plain_reverse(c->p, c->n, g, c->g_count, fence_expected(&out_fence));
+    compare_buffer("output", &out_fence, sizeof *out);
+    compare_work(c->n, c->g_count, number);
+}
+
+static void make_prime(const struct call *c)
+{
+    ruhitapo_prime_answer answer = ruhitapo_prime(c->index);
+    compare_number(c, c->index < 16 ? 0 : 14, answer.number);
+    call_compare("prime", c->index < 16 ? plain_table(c->index) : 0, answer.prime);
+}
+
+size_t call_text_bytes(const struct call *c)
+{
+    return plain_text(c->number, c->n, c->weight, c->g, c->g_count, text, sizeof text);
+}
+
+static void make_render(const struct call *c)
+{
+    const uint32_t *list = inner_list(c, NULL);
+    uint8_t *lent = fence_lend(&text_fence, c->text_count, side(c, 4));
+    size_t bytes = call_text_bytes(c);
+    uint32_t number = plain_render_number(c->number, c->n, c->g_count, bytes, c->text_count);
+    ruhitapo_text_answer answer = ruhitapo_render(c->number, c->n, c->weight, list, c->g_count, lent, c->text_count);
+    compare_number(c, number, answer.number);
+    call_compare("count", number == 0 ? bytes : 0, answer.count);
+    if (number == 0)
+        memcpy(fence_expected(&text_fence), text, bytes);
+    compare_buffer("text", &text_fence, 1);
+}
+
+static void describe(const struct call *c)
+{
+    static const char *names[] = {"compose", "reverse", "prime", "render"};
+    snprintf(call_words, sizeof call_words,
+             "call %" PRIu64 ": %s, route %" PRIu32 ", p %" PRIu32 ", n %zu, index %" PRIu32 ", number %" PRIu32 ", weight %" PRIu64
+             ", counts: f %zu, g %zu%s, out %zu, work %zu, text %zu, sides %u",
+             tally.calls, names[c->kind], c->route, c->p, c->n, c->index, c->number, c->weight, c->f_count, c->g_count,
+             c->g_in_f ? " (a part of f)" : "", c->out_count, c->work_count, c->text_count, c->sides);
+}
+
+void call_make(const struct call *call)
+{
+    static void (*const makes[])(const struct call *) = {make_compose, make_reverse, make_prime, make_render};
+    current = call;
+    describe(call);
+    makes[call->kind](call);
+    tally.calls++;
+}

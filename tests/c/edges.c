@@ -1,0 +1,109 @@
+/* The edges of every test: each row is a call at one side of an edge. */
+#include "cases.h"
+#include "random.h"
+#include "ruhitapo.h"
+
+#include <string.h>
+
+#define LARGEST 2147483647u
+
+/* What stands at the last place of f, or of g where f is empty. */
+enum last { ANY, BELOW, EQUAL };
+
+/* out_more and work_more are added to the counts asked for; work stands for the text in a rendering. The route is the index or the number
+   where there is no route. */
+struct edge {
+    enum kind kind;
+    uint32_t route, p;
+    size_t n, f_count, g_count;
+    int out_more, work_more;
+    enum last last;
+};
+
+static const struct edge edges[] = {
+    {COMPOSE, 0, 7, 4, 3, 3, 0, 0, ANY}, {COMPOSE, 5, 7, 4, 3, 3, 0, 0, ANY},
+    {COMPOSE, 1, 7, 0, 3, 3, 0, 0, ANY}, {COMPOSE, 1, 7, 1, 3, 3, 0, 0, ANY}, {COMPOSE, 4, 7, 1, 1, 0, 0, 0, ANY},
+    {COMPOSE, 1, LARGEST, 4096, 2, 4096, 0, 0, ANY}, {COMPOSE, 2, LARGEST, 4096, 3, 3, 0, 0, ANY},
+    {COMPOSE, 3, 2, 4096, 3, 4096, 0, 0, ANY}, {COMPOSE, 4, LARGEST, 4096, 2, 2, 0, 0, ANY},
+    {COMPOSE, 1, 7, 4097, 1, 1, 0, 0, ANY}, {COMPOSE, 4, 7, 4097, 1, 1, 0, 0, ANY},
+    {COMPOSE, 1, LARGEST, 3, 4096, 5, 0, 0, ANY}, {COMPOSE, 2, LARGEST, 3, 4096, 5, 0, 0, ANY},
+    {COMPOSE, 3, 3, 3, 4096, 5, 0, 0, ANY}, {COMPOSE, 4, LARGEST, 3, 4096, 5, 0, 0, ANY},
+    {COMPOSE, 1, 7, 3, 4097, 5, 0, 0, ANY}, {COMPOSE, 4, 7, 3, 4097, 4097, -1, -1, EQUAL},
+    {COMPOSE, 1, 7, 3, 5, 4096, 0, 0, ANY}, {COMPOSE, 4, 7, 3, 5, 4096, 0, 0, ANY}, {COMPOSE, 1, 7, 3, 5, 4097, 0, 0, ANY},
+    {COMPOSE, 1, 7, 4, 0, 3, 0, 0, ANY}, {COMPOSE, 2, 7, 4, 0, 0, 0, 0, ANY}, {COMPOSE, 3, 7, 4, 0, 3, 0, 0, ANY},
+    {COMPOSE, 4, 7, 4, 0, 3, 0, 0, ANY}, {COMPOSE, 4, 7, 4, 0, 3, 0, -1, ANY},
+    {COMPOSE, 1, 7, 4, 3, 3, 1, 0, ANY}, {COMPOSE, 1, 7, 4, 3, 3, -1, 0, ANY}, {COMPOSE, 1, 7, 1, 3, 3, -1, 0, ANY},
+    {COMPOSE, 1, 7, 4, 3, 3, 0, -1, ANY}, {COMPOSE, 4, 7, 4, 3, 3, 0, -1, EQUAL}, {COMPOSE, 2, 7, 4096, 1, 3, 0, -1, ANY},
+    {COMPOSE, 1, 7, 4, 3, 3, 0, 0, BELOW}, {COMPOSE, 1, 7, 4, 3, 3, 0, 0, EQUAL},
+    {COMPOSE, 3, 7, 4, 0, 30, 0, 0, BELOW}, {COMPOSE, 3, 7, 4, 0, 30, 0, 0, EQUAL},
+    {REVERSE, 0, 7, 0, 0, 3, 0, 0, ANY}, {REVERSE, 0, 7, 1, 0, 0, 0, 0, ANY}, {REVERSE, 0, 7, 1, 0, 1, 0, 0, ANY},
+    {REVERSE, 0, 7, 2, 0, 0, 0, 0, ANY}, {REVERSE, 0, 7, 2, 0, 1, 0, 0, ANY}, {REVERSE, 0, 2, 2, 0, 2, 0, 0, ANY},
+    {REVERSE, 0, LARGEST, 4096, 0, 2, 0, 0, ANY}, {REVERSE, 0, 7, 4097, 0, 2, 0, 0, ANY},
+    {REVERSE, 0, 7, 5, 0, 4096, 0, 0, ANY}, {REVERSE, 0, 7, 5, 0, 4097, 0, 0, ANY},
+    {REVERSE, 0, 7, 5, 0, 4, 1, 0, ANY}, {REVERSE, 0, 7, 5, 0, 4, -1, 0, ANY}, {REVERSE, 0, 7, 5, 0, 4, 0, -1, ANY},
+    {REVERSE, 0, 7, 5, 0, 4, 0, 0, BELOW}, {REVERSE, 0, 7, 5, 0, 4, 0, 0, EQUAL}, {REVERSE, 0, 4, 5, 0, 4, 0, 0, ANY},
+    {PRIME, 0, 0, 0, 0, 0, 0, 0, ANY}, {PRIME, 15, 0, 0, 0, 0, 0, 0, ANY}, {PRIME, 16, 0, 0, 0, 0, 0, 0, ANY},
+    {RENDER, 0, 0, 0, 0, 0, 0, 0, ANY}, {RENDER, 0, 0, 1, 0, 1, 0, 0, ANY}, {RENDER, 0, 0, 1, 0, 1, 0, -1, ANY},
+    {RENDER, 0, 0, 4096, 0, 4096, 0, 0, ANY}, {RENDER, 0, 0, 4096, 0, 4096, 0, -1, ANY},
+    {RENDER, 0, 0, 4096, 0, 4096, 0, 0, BELOW}, {RENDER, 0, 0, 4096, 0, 4096, 0, -1, BELOW},
+    {RENDER, 0, 0, 4097, 0, 4097, 0, 0, ANY}, {RENDER, 0, 0, 4, 0, 3, 0, 0, ANY}, {RENDER, 0, 0, 4, 0, 5, 0, 0, ANY},
+    {RENDER, 1, 0, 0, 0, 0, 0, 0, ANY}, {RENDER, 1, 0, 4097, 0, 3, 0, 0, ANY}, {RENDER, 4294967295u, 0, 4, 0, 3, 0, 0, ANY},
+    {RENDER, 4294967295u, 0, 4, 0, 3, 0, -1, ANY}, {RENDER, 10, 0, 0, 0, 0, 0, 1, ANY},
+};
+
+/* The lists of a composition or a reversion. */
+static void fill_lists(struct call *c, const struct edge *e)
+{
+    uint32_t *last = e->f_count > 0 ? c->f + e->f_count - 1 : c->g + (e->g_count > 0 ? e->g_count - 1 : 0);
+    random_list(c->p, c->f, MOST_PLACES);
+    random_list(c->p, c->g, MOST_PLACES);
+    if (c->kind == REVERSE) {
+        c->g[0] = 0;
+        c->g[1] = 1;
+    }
+    if (e->last != ANY)
+        *last = e->last == EQUAL ? c->p : c->p - 1;
+}
+
+/* A row for rendering; BELOW asks for the longest text. */
+static void fill_rendering(struct call *c, const struct edge *e)
+{
+    size_t bytes;
+    c->number = e->route;
+    c->weight = e->last == BELOW ? UINT64_MAX : random_word();
+    random_list(UINT32_MAX, c->g, MOST_PLACES);
+    if (e->last == BELOW)
+        memset(c->g, 255, sizeof c->g);
+    bytes = call_text_bytes(c);
+    if (e->last == BELOW)
+        call_compare("bytes of the longest text", RUHITAPO_MOST_TEXT_BYTES, bytes);
+    c->text_count = bytes + (size_t)e->work_more;
+}
+
+static void fill(struct call *c, const struct edge *e)
+{
+    memset(c, 0, sizeof *c);
+    c->kind = e->kind;
+    c->route = c->index = e->route;
+    c->p = e->p;
+    c->n = e->n;
+    c->f_count = e->f_count;
+    c->g_count = e->g_count;
+    c->out_count = (e->n <= 4096 ? e->n : 4097) + (size_t)e->out_more;
+    c->work_count = 128 * (e->n <= 4096 ? e->n : 1) + 8 * (e->kind == REVERSE ? e->g_count : e->f_count) + (size_t)e->work_more;
+    if (e->kind == RENDER)
+        fill_rendering(c, e);
+    else if (e->kind != PRIME)
+        fill_lists(c, e);
+}
+
+void edges_make(void)
+{
+    static struct call call;
+    size_t i;
+    for (i = 0; i < 2 * sizeof edges / sizeof *edges; i++) {
+        fill(&call, edges + i / 2);
+        call.sides = i % 2 == 0 ? 31 : 0;
+        call_make(&call);
+    }
+}
