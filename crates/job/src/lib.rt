@@ -1,0 +1,97 @@
+// The job program's answer to a file: the file is read by its header, the job composed, and the answer rendered.
+ghost use mathlib.Core.Bool.{false};
+ghost use mathlib.Core.Path.{_≡_};
+ghost use Prim.Native.Nat.{_+_, _*_, _<_, _≤_};
+ghost use lib.ListN.{length};
+ghost use Rattle.definition.specs.Job.{cutShort, field, listAt, misplaced, tooLarge, word};
+
+// The bytes of the header, and of the longest file.
+const HEADER: usize = 28;
+
+const MOST_BYTES: usize = 4096;
+
+// The largest order and count that a header may state.
+const MOST_PLACES: u32 = 64;
+
+fn wide(byte: u8) -> u32
+    ensures { λ r. ⌜ (r ≡ byte) × (r < 256) ⌝ }
+{
+    byte as u32
+}
+
+// The little-endian number in the four bytes from place `at` on.
+fn word(file: &[u8], at: usize) -> u32
+    requires { ⌜ at + 4 ≤ length (now file) ⌝ }
+    ensures { λ r. ⌜ r ≡ word (now (file .entry)) at ⌝ }
+{
+    wide(file[at])
+        + 256 * wide(file[at + 1])
+        + 65536 * wide(file[at + 2])
+        + 16777216 * wide(file[at + 3])
+}
+
+// Number k of the header.
+fn field(file: &[u8], k: usize) -> u32
+    requires { ⌜ (28 ≤ length (now file)) × (k < 7) ⌝ }
+    ensures { λ r. ⌜ r ≡ field (now (file .entry)) k ⌝ }
+{
+    word(file, 4 * k)
+}
+
+// Whether the file is longer than 4096 bytes, or its header, if it is whole, states an order or a count above 64.
+fn too_large(file: &[u8]) -> bool
+    ensures { λ r. ⌜ r ≡ tooLarge (now (file .entry)) ⌝ }
+{
+    if file.len() > MOST_BYTES {
+        return true;
+    }
+    if file.len() < HEADER {
+        return false;
+    }
+    if field(file, 2) > MOST_PLACES {
+        return true;
+    }
+    if field(file, 3) > MOST_PLACES {
+        return true;
+    }
+    field(file, 5) > MOST_PLACES
+}
+
+// Whether a list is not empty, and begins in the header or does not lie wholly in the file.
+fn misplaced(file: &[u8], count: u32, at: u32) -> bool
+    ensures { λ r. ⌜ r ≡ misplaced (now (file .entry)) count at ⌝ }
+{
+    if count == 0 {
+        return false;
+    }
+    let start = at as usize;
+    if start < HEADER {
+        return true;
+    }
+    file.len() < start + 4 * (count as usize)
+}
+
+// Whether the header is cut short, or a list is misplaced.
+fn cut_short(file: &[u8]) -> bool
+    ensures { λ r. ⌜ r ≡ cutShort (now (file .entry)) ⌝ }
+{
+    if file.len() < HEADER {
+        return true;
+    }
+    if misplaced(file, field(file, 3), field(file, 4)) {
+        return true;
+    }
+    misplaced(file, field(file, 5), field(file, 6))
+}
+
+// Reads the list from place `at` on, with as many numbers as `list` has places.
+fn read_list(file: &[u8], at: usize, list: &mut [u32])
+    requires { ⌜ misplaced (now file) (length (now list)) at ≡ false ⌝ }
+    ensures { λ _. ⌜ now (list .exit) ≡ listAt (now (file .entry)) (length (now (list .entry))) at ⌝ }
+{
+    let mut i = 0;
+    while i < list.len() {
+        list[i] = word(file, at + 4 * i);
+        i += 1;
+    }
+}
