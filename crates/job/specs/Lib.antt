@@ -1,4 +1,6 @@
 -- Laws of the job file.
 --
 --   File   what the tests 12 and 13 tell of a file
+--   Run    the composition of a job, and its numbers
 pub mod File
+pub mod Run

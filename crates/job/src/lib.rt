@@ -1,9 +1,12 @@
 // The job program's answer to a file: the file is read by its header, the job composed, and the answer rendered.
+use refusal::Answer;
 ghost use mathlib.Core.Bool.{false};
 ghost use mathlib.Core.Path.{_≡_};
 ghost use Prim.Native.Nat.{_+_, _*_, _<_, _≤_};
 ghost use lib.ListN.{length};
-ghost use Rattle.definition.specs.Job.{cutShort, field, listAt, misplaced, tooLarge, word};
+ghost use Rattle.definition.specs.Job.{cutShort, field, listAt, misplaced, order, tooLarge, word};
+ghost use Rattle.job.specs.File.{Accepted};
+ghost use Rattle.job.specs.Run.{Composition, Lists};
 
 // The bytes of the header, and of the longest file.
 const HEADER: usize = 28;
@@ -12,6 +15,9 @@ const MOST_BYTES: usize = 4096;
 
 // The largest order and count that a header may state.
 const MOST_PLACES: u32 = 64;
+
+// The places of work for such an order and count.
+const WORK: usize = 8704;
 
 fn wide(byte: u8) -> u32
     ensures { λ r. ⌜ (r ≡ byte) × (r < 256) ⌝ }
@@ -94,4 +100,37 @@ fn read_list(file: &[u8], at: usize, list: &mut [u32])
         list[i] = word(file, at + 4 * i);
         i += 1;
     }
+}
+
+// Composes the lists of a file that the tests 12 and 13 let pass, into an output of exactly n places.
+fn compose_lists(file: &[u8], f: &[u32], g: &[u32], output: &mut [u32]) -> Answer
+    requires { ⌜ Lists (now file) (now f) (now g) (now output) ⌝ }
+    ensures { λ r. ⌜ Composition (now (file .entry)) (now (output .entry)) (now (output .exit)) (r .number) (r .weight) ⌝ }
+{
+    let mut work = [0u32; WORK];
+    let n = output.len();
+    let places = route::work_places(n, f.len());
+    compose::compose(
+        field(file, 0),
+        field(file, 1),
+        n,
+        f,
+        g,
+        output,
+        &mut work[..places],
+    )
+}
+
+// The same, with the lists read from the file.
+fn compose_file(file: &[u8], output: &mut [u32]) -> Answer
+    requires { ⌜ Accepted (now file) × (length (now output) ≡ order (now file)) ⌝ }
+    ensures { λ r. ⌜ Composition (now (file .entry)) (now (output .entry)) (now (output .exit)) (r .number) (r .weight) ⌝ }
+{
+    let mut outer = [0u32; 64];
+    let m = field(file, 3) as usize;
+    read_list(file, field(file, 4) as usize, &mut outer[..m]);
+    let mut inner = [0u32; 64];
+    let k = field(file, 5) as usize;
+    read_list(file, field(file, 6) as usize, &mut inner[..k]);
+    compose_lists(file, &outer[..m], &inner[..k], output)
 }
