@@ -1,6 +1,7 @@
 -- The number of a list of tests, and what each test tells where it does not fire.
 --
 --   fieldTests routedTests   the tests that many calls begin with
+--   listTests                the tests that rendering makes of order and list
 --   numberAfter earlier ts   the number of the tests ts where those before them have the number `earlier`
 --   absent r ts              no test of the list has the number r
 --   Passed ts                no test of the list fires
@@ -32,6 +33,9 @@ fieldTests p n = test 2 (badModulus p) ∷ test 3 (badOrder n) ∷ []
 
 abbrev pub routedTests : ℕ → ℕ → ℕ → List Test
 routedTests route p n = test 1 (badRoute route) ∷ fieldTests p n
+
+abbrev pub listTests : ℕ → ℕ → ℕ → List Test
+listTests number n places = test 3 (eqb number 0 && badOrder n) ∷ test 6 (eqb number 0 && notPlaces n places) ∷ []
 
 unfoldable pub numberAfter : ℕ → List Test → ℕ
 numberAfter zero ts = first ts

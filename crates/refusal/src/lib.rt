@@ -1,4 +1,4 @@
-// The number that each of the calls compose, reverse, open (of a chain) and cycle returns, and the places of work of a cycle.
+// The number that each of the calls compose, reverse, open (of a chain), cycle and render returns, and the places of work of a cycle.
 use field::Field;
 use field::Opened;
 ghost use lib.Dec.{ltb};
@@ -18,10 +18,11 @@ ghost use Rattle.definition.specs.Refusal.{
   hasConstant,
   irreversible,
   openRefusal,
+  renderRefusal,
   reverseRefusal,
   test,
 };
-ghost use Rattle.refusal.specs.Tests.{fieldTests, numberAfter, routedTests};
+ghost use Rattle.refusal.specs.Tests.{fieldTests, listTests, numberAfter, routedTests};
 
 // The largest order, and the longest list that a call takes.
 const LIMIT: usize = 4096;
@@ -187,4 +188,21 @@ pub fn cycle(route: u32, p: u32, n: usize, done: u32, c: &[u32], s: &[u32], work
     let number = coefficient_number(number, p, s);
     let number = next_number(number, 10, either_has_constant(c, s));
     next_number(number, 11, done >= 64)
+}
+
+// The number of the tests that rendering makes of order and list: 3, 6 or 0. A refusal number meets neither.
+pub fn list_number(number: u32, n: usize, places: usize) -> u32
+    ensures { λ r. ⌜ r ≡ first (listTests number n places) ⌝ }
+{
+    if number != 0 {
+        return 0;
+    }
+    next_number(next_number(0, 3, bad_order(n)), 6, places != n)
+}
+
+// The number that rendering returns for a list of `places` places, a text of `bytes` bytes and a buffer of `text` bytes.
+pub fn render(number: u32, n: usize, places: usize, bytes: usize, text: usize) -> u32
+    ensures { λ r. ⌜ r ≡ renderRefusal number n places bytes text ⌝ }
+{
+    next_number(list_number(number, n, places), 7, text < bytes)
 }

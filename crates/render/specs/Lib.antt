@@ -1,0 +1,8 @@
+-- The laws of the printed answer.
+--
+--   Decimal   the digits of a number, and how many there are
+--   Lengths   how long a text is
+--   Writing   lists written one after the other into a text
+pub mod Decimal
+pub mod Lengths
+pub mod Writing

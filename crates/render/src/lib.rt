@@ -1,0 +1,190 @@
+// The call render: the printed answer, measured and then written into the lent text buffer.
+ghost use lib.ListN.{length};
+ghost use mathlib.Core.List.{[], _∷_};
+ghost use mathlib.Core.Path.{_≡_};
+ghost use Prim.Native.Nat.{_+_, _<_, _≤_};
+ghost use Rattle.definition.specs.Calls.{Render};
+ghost use Rattle.definition.specs.Refusal.{first};
+ghost use Rattle.definition.specs.Text.{accepted, decimal, refused, rendered, space, spaced};
+ghost use Rattle.refusal.specs.Tests.{listTests};
+ghost use Rattle.render.specs.Writing.{Written};
+
+// What rendering answers: the number, and the count of bytes written (0 where it is refused).
+#[repr(C)]
+pub struct Answer {
+    pub number: u32,
+    pub count: usize,
+}
+
+// The count of digits of v.
+fn decimal_places(v: u64) -> usize
+    ensures { λ r. ⌜ r ≡ length (decimal v) ⌝ }
+{
+    if v < 10 {
+        return 1;
+    }
+    decimal_places(v / 10) + 1
+}
+
+// The count of bytes of one more coefficient, with the space before it.
+fn next_places(coefficient: u32) -> usize
+    ensures { λ r. ⌜ r ≡ length (space ∷ decimal coefficient) ⌝ }
+{
+    1 + decimal_places(coefficient as u64)
+}
+
+// The count of bytes of the coefficients with single spaces.
+fn spaced_places(list: &[u32]) -> usize
+    requires { ⌜ (0 < length (now list)) × (length (now list) ≤ 4096) ⌝ }
+    ensures { λ r. ⌜ r ≡ length (spaced (now (list .entry))) ⌝ }
+{
+    let mut places = decimal_places(list[0] as u64);
+    let mut i = 1;
+    while i < list.len() {
+        places += next_places(list[i]);
+        i += 1;
+    }
+    places
+}
+
+// The count of bytes of an accepted answer.
+fn accepted_places(n: usize, weight: u64, list: &[u32]) -> usize
+    requires { ⌜ (0 < length (now list)) × (length (now list) ≤ 4096) ⌝ }
+    ensures { λ r. ⌜ r ≡ length (accepted n weight (now (list .entry))) ⌝ }
+{
+    6 + decimal_places(n as u64) + decimal_places(weight) + spaced_places(list)
+}
+
+// The count of bytes of a refusal.
+fn refused_places(number: u32) -> usize
+    ensures { λ r. ⌜ r ≡ length (refused number) ⌝ }
+{
+    4 + decimal_places(number as u64)
+}
+
+// The count of bytes of the answer, where its order and its list are not refused.
+fn rendered_places(number: u32, n: usize, weight: u64, list: &[u32]) -> usize
+    ensures { λ r. ⌜ (first (listTests number n (length (now (list .entry)))) ≡ 0
+        → r ≡ length (rendered number n weight (now (list .entry)))) ⌝ }
+{
+    if refusal::list_number(number, n, list.len()) != 0 {
+        return 0;
+    }
+    if number != 0 {
+        return refused_places(number);
+    }
+    accepted_places(n, weight, list)
+}
+
+// Writes the bytes from place `at` on. Like every routine below it returns the place after the last that it wrote.
+fn write_bytes(bytes: &[u8], text: &mut [u8], at: usize) -> usize
+    requires { ⌜ at + length (now bytes) ≤ length (now text) ⌝ }
+    ensures { λ r. ⌜ Written (now (bytes .entry)) at (now (text .entry)) (now (text .exit)) r ⌝ }
+{
+    let mut i = 0;
+    while i < bytes.len() {
+        text[at + i] = bytes[i];
+        i += 1;
+    }
+    at + i
+}
+
+// Writes one digit.
+fn write_digit(digit: u64, text: &mut [u8], at: usize) -> usize
+    requires { ⌜ (digit < 10) × (at < length (now text)) ⌝ }
+    ensures { λ r. ⌜ Written ((48 + digit) ∷ []) at (now (text .entry)) (now (text .exit)) r ⌝ }
+{
+    text[at] = 48 + digit as u8;
+    at + 1
+}
+
+// Writes the digits of v.
+fn write_decimal(v: u64, text: &mut [u8], at: usize) -> usize
+    requires { ⌜ at + length (decimal v) ≤ length (now text) ⌝ }
+    ensures { λ r. ⌜ Written (decimal v) at (now (text .entry)) (now (text .exit)) r ⌝ }
+{
+    if v < 10 {
+        return write_digit(v, text, at);
+    }
+    let last = write_decimal(v / 10, text, at);
+    write_digit(v % 10, text, last)
+}
+
+// Writes one more coefficient, with the space before it.
+fn write_next(coefficient: u32, text: &mut [u8], at: usize) -> usize
+    requires { ⌜ at + length (space ∷ decimal coefficient) ≤ length (now text) ⌝ }
+    ensures { λ r. ⌜ Written (space ∷ decimal coefficient) at (now (text .entry)) (now (text .exit)) r ⌝ }
+{
+    let digits = write_bytes(b" ", text, at);
+    write_decimal(coefficient as u64, text, digits)
+}
+
+// Writes the coefficients with single spaces.
+fn write_spaced(list: &[u32], text: &mut [u8], at: usize) -> usize
+    requires { ⌜ (0 < length (now list)) × (at + length (spaced (now list)) ≤ length (now text)) ⌝ }
+    ensures { λ r. ⌜ Written (spaced (now (list .entry))) at (now (text .entry)) (now (text .exit)) r ⌝ }
+{
+    let mut next = write_decimal(list[0] as u64, text, at);
+    let mut i = 1;
+    while i < list.len() {
+        next = write_next(list[i], text, next);
+        i += 1;
+    }
+    next
+}
+
+// Writes an accepted answer.
+fn write_accepted(n: usize, weight: u64, list: &[u32], text: &mut [u8]) -> usize
+    requires { ⌜ (0 < length (now list)) × (length (accepted n weight (now list)) ≤ length (now text)) ⌝ }
+    ensures { λ r. ⌜ Written (accepted n weight (now (list .entry))) 0 (now (text .entry)) (now (text .exit)) r ⌝ }
+{
+    let next = write_bytes(b"ok ", text, 0);
+    let next = write_decimal(n as u64, text, next);
+    let next = write_bytes(b" ", text, next);
+    let next = write_decimal(weight, text, next);
+    let next = write_bytes(b"\n", text, next);
+    let next = write_spaced(list, text, next);
+    write_bytes(b"\n", text, next)
+}
+
+// Writes a refusal.
+fn write_refused(number: u32, text: &mut [u8]) -> usize
+    requires { ⌜ length (refused number) ≤ length (now text) ⌝ }
+    ensures { λ r. ⌜ Written (refused number) 0 (now (text .entry)) (now (text .exit)) r ⌝ }
+{
+    let next = write_bytes(b"no ", text, 0);
+    let next = write_decimal(number as u64, text, next);
+    write_bytes(b"\n", text, next)
+}
+
+// Writes the answer.
+fn write_rendered(number: u32, n: usize, weight: u64, list: &[u32], text: &mut [u8]) -> usize
+    requires { ⌜ (first (listTests number n (length (now list))) ≡ 0)
+        × (length (rendered number n weight (now list)) ≤ length (now text)) ⌝ }
+    ensures { λ r. ⌜ Written (rendered number n weight (now (list .entry))) 0 (now (text .entry)) (now (text .exit)) r ⌝ }
+{
+    if number != 0 {
+        return write_refused(number, text);
+    }
+    write_accepted(n, weight, list, text)
+}
+
+// The printed form of a refusal number, or of 0 with order, weight and coefficients, from place 0 of `text` on.
+pub fn render(number: u32, n: usize, weight: u64, list: &[u32], text: &mut [u8]) -> Answer
+    ensures { λ r. ⌜ Render number n weight (now (list .entry)) (now (text .entry)) (now (text .exit))
+        (r .number) (r .count) ⌝ }
+{
+    let places = rendered_places(number, n, weight, list);
+    let refused = refusal::render(number, n, list.len(), places, text.len());
+    if refused != 0 {
+        return Answer {
+            number: refused,
+            count: 0,
+        };
+    }
+    let count = write_rendered(number, n, weight, list, text);
+    Answer {
+        number: 0,
+        count: count,
+    }
+}
