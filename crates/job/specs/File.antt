@@ -11,10 +11,11 @@ use Prim.Native.Nat.{ℕ, _+_, _*_, _<_, _≤_}
 use native.Mathlib.Omega.{arith}
 use borrow.Author.Tests.{eqb-true, le-leb, ltb-false, ne-eqb, not-false}
 use lib.Dec.{eqb, ltb}
-use lib.ListN.{length}
+use lib.ListN.{length, take, length-append}
+use lib.Seq.{length-take-le, take-at}
 use mathlib.Core.Bool.{Bool, true, false, not, true≢false, _&&_, _||_}
-use mathlib.Core.List.{List}
-use mathlib.Core.Path.{_≡_, refl, sym, _∙_}
+use mathlib.Core.List.{List, _++_}
+use mathlib.Core.Path.{_≡_, ap, _∙_}
 use Rattle.algebra.specs.Lists.{length-tabulate}
 use Rattle.buffer.specs.Written.{sets-whole}
 use Rattle.definition.specs.Job.{cutShort, field, headerBytes, listAt, misplaced, mostBytes, mostPlaces, order, tooLarge, wordOf}
@@ -32,6 +33,37 @@ pub list-read : (file : List ℕ) (at : ℕ) {list list′ : List ℕ} {i : ℕ}
     → list′ ≡ listAt file (length list) at
 unfolding listAt
 list-read file at {list} filling past = filling-last filling past ∙ sets-whole list _ (length-tabulate (length list) (wordOf file at))
+
+-- the list whose count and offset are the numbers k and k + 1 of the header lies in the file, and its count is at most `places`
+pub record Stated (file : List ℕ) (k places : ℕ) : Type 0 where
+  pub header : 28 ≤ length file
+  pub number : k + 1 < 7
+  pub room : field file k ≤ places
+  pub lies : misplaced file (field file k) (field file (k + 1)) ≡ false
+
+-- the first places of `list` are that list
+pub record Front (file : List ℕ) (k : ℕ) (list : List ℕ) (count : ℕ) : Type 0 where
+  pub counts : count ≡ field file k
+  pub fits : count ≤ length list
+  pub first : take count list ≡ listAt file (field file k) (field file (k + 1))
+
+pub length-listAt : (file : List ℕ) (count at : ℕ) → length (listAt file count at) ≡ count
+unfolding listAt
+length-listAt file count at = length-tabulate count (wordOf file at)
+
+module _ {file : List ℕ} {k count : ℕ} (list : List ℕ) (stated : Stated file k (length list)) (counted : count ≡ field file k) where
+  pub stated-length : length (take count list) ≡ count
+  stated-length = length-take-le count list (omega (arith, stated .room))
+
+  pub front-read : {part : List ℕ} {at : ℕ} (rest : List ℕ) → at ≡ field file (k + 1) → part ≡ listAt file (length (take count list)) at
+      → Front file k (part ++ rest) count
+  front-read {part} {at} rest offset same =
+      let size : length part ≡ count = ap length same ∙ length-listAt file (length (take count list)) at ∙ stated-length in
+      record {
+        counts = counted;
+        fits = omega (arith, length-append part rest, size);
+        first = take-at part rest count size ∙ same ∙ rw (stated-length, counted, offset);
+      }
 
 pub record Accepted (file : List ℕ) : Type 0 where
   pub large : tooLarge file ≡ false
@@ -71,3 +103,9 @@ module _ {file : List ℕ} (accepted : Accepted file) where
 
   pub small-inner : field file 5 ≤ 64
   small-inner = stated .1
+
+  pub outer-stated : {places : ℕ} → 64 ≡ places → Stated file 3 places
+  outer-stated enough = record { header = whole; number = omega arith; room = rw (← enough) small-outer; lies = outer-placed }
+
+  pub inner-stated : {places : ℕ} → 64 ≡ places → Stated file 5 places
+  inner-stated enough = record { header = whole; number = omega arith; room = rw (← enough) small-inner; lies = inner-placed }

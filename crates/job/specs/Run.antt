@@ -20,14 +20,10 @@ use Rattle.definition.specs.Job.{composeNumber, cutShort, field, inner, jobRefu
 use Rattle.definition.specs.Refusal.{Test, badModulus, badOrder, badRoute, composeRefusal, composeWork, exceeds, first, limit, notPlaces, test, tooLong}
 use Rattle.definition.specs.Substitution.{composed}
 use Rattle.definition.specs.Weight.{weight}
-use Rattle.job.specs.File.{Accepted, small-inner, small-outer}
+use Rattle.job.specs.File.{Accepted, length-listAt, small-inner, small-order, small-outer}
 use Rattle.refusal.specs.Tests.{Passed, absent, passed}
 
-pub length-listAt : (file : List ℕ) (count at : ℕ) → length (listAt file count at) ≡ count
-unfolding listAt
-length-listAt file count at = length-tabulate count (wordOf file at)
-
-pub length-outer : (file : List ℕ) → length (outer file) ≡ field file 3
+length-outer : (file : List ℕ) → length (outer file) ≡ field file 3
 unfolding outer
 length-outer file = length-listAt file _ _
 
@@ -46,17 +42,29 @@ pub record Composition (file output output′ : List ℕ) (number weight′ : �
   pub weighs : weight′ ≡ answered number (weight (route file) (modulus file) (order file) (field file 3))
   pub leaves : output′ ≡ kept number (composed (modulus file) (order file) (outer file) (inner file)) output
 
-module _ {file f g output output′ work work′ : List ℕ} {number weight′ : ℕ} (lists : Lists file f g output) where
-  pub composition : length work ≡ composeWork (length output) (length f)
-      → Compose (field file 0) (field file 1) (length output) f g output output′ work work′ number weight′ → Composition file output output′ number weight′
+module _ {file f g output : List ℕ} (lists : Lists file f g output) where
+  outer-count : length f ≡ field file 3
+  outer-count = ap length (lists .outer-list) ∙ length-outer file
+
+  pub lists-few : (length output ≤ 64) × (length f ≤ 64)
+  lists-few =
+      let n = small-order (lists .accepted) in
+      let m = small-outer (lists .accepted) in
+      (omega (arith, lists .places), omega (arith, outer-count))
+
+  pub work-fits : {end : ℕ} (work : List ℕ) → end ≡ composeWork (length output) (length f) → 8704 ≡ length work → end ≤ length work
+  unfolding composeWork
+  work-fits work counted size = omega (arith, lists-few)
+
+  pub composition : {output′ work work′ : List ℕ} {named p number weight′ : ℕ} → named ≡ field file 0 → p ≡ field file 1
+      → length work ≡ composeWork (length output) (length f)
+      → Compose named p (length output) f g output output′ work work′ number weight′ → Composition file output output′ number weight′
   unfolding composeNumber modulus route
-  composition enough answer =
-      let count : length f ≡ field file 3 = ap length (lists .outer-list) ∙ length-outer file in
-      record {
-        refusal = rw (← lists .outer-list, ← lists .inner-list, ← lists .places, ← count, ← enough) (answer .refusal);
-        weighs = rw (← lists .places, ← count) (answer .weighs);
-        leaves = rw (← lists .outer-list, ← lists .inner-list, ← lists .places) (answer .output);
-      }
+  composition {named} {p} first second enough answer = record {
+    refusal = rw (← first, ← second, ← lists .outer-list, ← lists .inner-list, ← lists .places, ← outer-count, ← enough) (answer .refusal);
+    weighs = rw (← first, ← second, ← lists .places, ← outer-count) (answer .weighs);
+    leaves = rw (← second, ← lists .outer-list, ← lists .inner-list, ← lists .places) (answer .output);
+  }
 
 -- the tests that compose makes of a file that the tests 12 and 13 let pass: the others do not fire
 abbrev jobTests : List ℕ → List Test

@@ -5,7 +5,7 @@ ghost use mathlib.Core.Path.{_≡_};
 ghost use Prim.Native.Nat.{_+_, _*_, _<_, _≤_};
 ghost use lib.ListN.{length};
 ghost use Rattle.definition.specs.Job.{cutShort, field, listAt, misplaced, order, tooLarge, word};
-ghost use Rattle.job.specs.File.{Accepted};
+ghost use Rattle.job.specs.File.{Accepted, Front, Stated};
 ghost use Rattle.job.specs.Run.{Composition, Lists};
 
 // The bytes of the header, and of the longest file.
@@ -15,9 +15,6 @@ const MOST_BYTES: usize = 4096;
 
 // The largest order and count that a header may state.
 const MOST_PLACES: u32 = 64;
-
-// The places of work for such an order and count.
-const WORK: usize = 8704;
 
 fn wide(byte: u8) -> u32
     ensures { λ r. ⌜ (r ≡ byte) × (r < 256) ⌝ }
@@ -102,14 +99,39 @@ fn read_list(file: &[u8], at: usize, list: &mut [u32])
     }
 }
 
+// Reads the list whose count and offset are the numbers k and k + 1 of the header into the first places of `list`; its count.
+fn read_stated(file: &[u8], k: usize, list: &mut [u32]) -> usize
+    requires { ⌜ Stated (now file) k (length (now list)) ⌝ }
+    ensures { λ r. ⌜ Front (now (file .entry)) k (now (list .exit)) r ⌝ }
+{
+    let count = field(file, k) as usize;
+    let at = field(file, k + 1) as usize;
+    read_list(file, at, &mut list[..count]);
+    count
+}
+
+// 64 zeros, for a list or the output.
+fn places() -> [u32; 64]
+    ensures { λ r. ⌜ 64 ≡ length r ⌝ }
+{
+    [0; 64]
+}
+
+// 8704 zeros: the work for 64 places and 64 coefficients.
+fn work_places() -> [u32; 8704]
+    ensures { λ r. ⌜ 8704 ≡ length r ⌝ }
+{
+    [0; 8704]
+}
+
 // Composes the lists of a file that the tests 12 and 13 let pass, into an output of exactly n places.
 fn compose_lists(file: &[u8], f: &[u32], g: &[u32], output: &mut [u32]) -> Answer
     requires { ⌜ Lists (now file) (now f) (now g) (now output) ⌝ }
     ensures { λ r. ⌜ Composition (now (file .entry)) (now (output .entry)) (now (output .exit)) (r .number) (r .weight) ⌝ }
 {
-    let mut work = [0u32; WORK];
+    let mut work = work_places();
     let n = output.len();
-    let places = route::work_places(n, f.len());
+    let end = route::work_places(n, f.len());
     compose::compose(
         field(file, 0),
         field(file, 1),
@@ -117,7 +139,7 @@ fn compose_lists(file: &[u8], f: &[u32], g: &[u32], output: &mut [u32]) -> Answe
         f,
         g,
         output,
-        &mut work[..places],
+        &mut work[..end],
     )
 }
 
@@ -126,11 +148,9 @@ fn compose_file(file: &[u8], output: &mut [u32]) -> Answer
     requires { ⌜ Accepted (now file) × (length (now output) ≡ order (now file)) ⌝ }
     ensures { λ r. ⌜ Composition (now (file .entry)) (now (output .entry)) (now (output .exit)) (r .number) (r .weight) ⌝ }
 {
-    let mut outer = [0u32; 64];
-    let m = field(file, 3) as usize;
-    read_list(file, field(file, 4) as usize, &mut outer[..m]);
-    let mut inner = [0u32; 64];
-    let k = field(file, 5) as usize;
-    read_list(file, field(file, 6) as usize, &mut inner[..k]);
+    let mut outer = places();
+    let m = read_stated(file, 3, &mut outer);
+    let mut inner = places();
+    let k = read_stated(file, 5, &mut inner);
     compose_lists(file, &outer[..m], &inner[..k], output)
 }
