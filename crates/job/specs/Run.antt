@@ -21,6 +21,7 @@ use Rattle.definition.specs.Refusal.{Test, badModulus, badOrder, badRoute, comp
 use Rattle.definition.specs.Substitution.{composed}
 use Rattle.definition.specs.Weight.{weight}
 use Rattle.job.specs.File.{Accepted, length-listAt, small-inner, small-order, small-outer}
+use Rattle.refusal.specs.Bounds.{compose-bounds}
 use Rattle.refusal.specs.Tests.{Passed, absent, passed}
 
 length-outer : (file : List ℕ) → length (outer file) ≡ field file 3
@@ -65,6 +66,10 @@ module _ {file f g output : List ℕ} (lists : Lists file f g output) where
     weighs = rw (← first, ← second, ← lists .places, ← outer-count) (answer .weighs);
     leaves = rw (← second, ← lists .outer-list, ← lists .inner-list, ← lists .places) (answer .output);
   }
+
+pub composition-order : (file : List ℕ) → composeNumber file ≡ 0 → 0 < order file
+unfolding composeNumber
+composition-order file accepted = compose-bounds _ _ _ _ _ _ _ accepted .field .positive
 
 -- the tests that compose makes of a file that the tests 12 and 13 let pass: the others do not fire
 abbrev jobTests : List ℕ → List Test

@@ -4,9 +4,12 @@ ghost use mathlib.Core.Bool.{false};
 ghost use mathlib.Core.Path.{_≡_};
 ghost use Prim.Native.Nat.{_+_, _*_, _<_, _≤_};
 ghost use lib.ListN.{length};
+ghost use Rattle.definition.specs.Calls.{Job};
 ghost use Rattle.definition.specs.Job.{cutShort, field, listAt, misplaced, order, tooLarge, word};
+ghost use Rattle.definition.specs.Text.{rendered};
 ghost use Rattle.job.specs.File.{Accepted, Front, Stated};
 ghost use Rattle.job.specs.Run.{Composition, Lists};
+ghost use Rattle.job.specs.Solved.{Printable, Printed, Solution};
 
 // The bytes of the header, and of the longest file.
 const HEADER: usize = 28;
@@ -15,6 +18,10 @@ const MOST_BYTES: usize = 4096;
 
 // The largest order and count that a header may state.
 const MOST_PLACES: u32 = 64;
+
+// The bytes of the longest answer: `ok `, 2 digits of order, a space, 20 digits of weight, a line end, and 64 coefficients of 10 digits, each
+// with a space or a line end after it.
+const LONGEST: usize = 731;
 
 fn wide(byte: u8) -> u32
     ensures { λ r. ⌜ (r ≡ byte) × (r < 256) ⌝ }
@@ -153,4 +160,58 @@ fn compose_file(file: &[u8], output: &mut [u32]) -> Answer
     let mut inner = places();
     let k = read_stated(file, 5, &mut inner);
     compose_lists(file, &outer[..m], &inner[..k], output)
+}
+
+// What a file is answered: the number, and where it is 0 the order and the weight.
+struct Solved {
+    number: u32,
+    order: usize,
+    weight: u64,
+}
+
+// Solves the job of a file; where the number is 0, the first n places of `output` are the composition.
+fn solve(file: &[u8], output: &mut [u32]) -> Solved
+    requires { ⌜ 64 ≡ length (now output) ⌝ }
+    ensures { λ r. ⌜ Solution (now (file .entry)) (now (output .exit)) (r .number) (r .order) (r .weight) ⌝ }
+{
+    if too_large(file) {
+        return Solved {
+            number: 12,
+            order: 0,
+            weight: 0,
+        };
+    }
+    if cut_short(file) {
+        return Solved {
+            number: 13,
+            order: 0,
+            weight: 0,
+        };
+    }
+    let n = field(file, 2) as usize;
+    let answer = compose_file(file, &mut output[..n]);
+    Solved {
+        number: answer.number,
+        order: n,
+        weight: answer.weight,
+    }
+}
+
+// The printed form of an answer of at most 64 coefficients, from place 0 of `text`; the count of its bytes.
+fn print(number: u32, n: usize, weight: u64, list: &[u32], text: &mut [u8; LONGEST]) -> usize
+    requires { ⌜ Printable number n (now list) ⌝ }
+    ensures { λ r. ⌜ Printed (rendered number n weight (now (list .entry))) (now (text .entry)) (now (text .exit)) r ⌝ }
+{
+    let answer = render::render(number, n, weight, list, text);
+    answer.count
+}
+
+// The job program's answer to a file, from place 0 of `text`; the count of its bytes.
+pub fn answer(file: &[u8], text: &mut [u8; LONGEST]) -> usize
+    ensures { λ r. ⌜ Job (now (file .entry)) (now (text .entry)) (now (text .exit)) r ⌝ }
+{
+    let mut output = places();
+    let solved = solve(file, &mut output);
+    let n = solved.order;
+    print(solved.number, n, solved.weight, &output[..n], text)
 }
