@@ -4,6 +4,9 @@
 --   ComposeBounds ReverseBounds OpenBounds CycleBounds       what holds where a call is accepted
 --   compose-bounds reverse-bounds open-bounds cycle-bounds   number 0 tells that
 --   reverse-nine    what number 9 of reverse tells
+--   list-passed     the tests of order and list passed, where their number is 0
+--   list-bounds     what holds of a list whose tests passed
+--   render-bounds   what number 0 of rendering tells
 -- Assumes nothing.
 use Prim.Native.Nat.{ℕ, _<_, _≤_}
 use borrow.Author.Tests.{leb-false, ltb-false}
@@ -22,10 +25,12 @@ use Rattle.definition.specs.Refusal.{
   cycleRefusal,
   cycleWork,
   exceeds,
+  first,
   hasConstant,
   irreversible,
   mostCycles,
   openRefusal,
+  renderRefusal,
   reverseRefusal,
   test,
 }
@@ -37,6 +42,7 @@ use Rattle.refusal.specs.Tests.{
   either-false,
   fired,
   length-within,
+  listTests,
   order-within,
   passed,
   places-equal,
@@ -163,3 +169,19 @@ cycle-bounds route p n done c s work accepted =
       running-constant-free = constant-zero s (constants .1);
       not-full = leb-false mostCycles done eleven;
     }
+
+pub list-passed : (number n places : ℕ) → first (listTests number n places) ≡ 0 → Passed (listTests number n places)
+unfolding absent test
+list-passed number n places h = passed 2 (listTests number n places) h refl .0
+
+pub list-bounds : {number : ℕ} (n places : ℕ) → number ≡ 0 → Passed (listTests number n places) → (0 < places) × (places ≤ 4096)
+unfolding Passed test
+list-bounds n places zero h =
+    let told : Passed (listTests 0 n places) = rw zero at h in
+    rw (places-equal n places (told .1 .0)) (order-within n (told .0))
+
+pub render-bounds : (number n places bytes text : ℕ) → renderRefusal number n places bytes text ≡ 0 → Passed (listTests number n places) × (bytes ≤ text)
+unfolding Passed absent renderRefusal test
+render-bounds number n places bytes text h =
+    let told = passed 3 _ h refl .0 in
+    ((told .0, (told .1 .0, tt)), ltb-false text bytes (told .1 .1 .0))

@@ -10,6 +10,8 @@
 --   followed                 a list, and then further tests
 --   either                   two tests of one number that follow each other are one
 --   passed                   the first k tests did not fire, where none of them has the number of the list
+--   first-passed             the number of a list of which no test fires
+--   first-same               what follows a list of tests counts only where no test of the list fires
 --   fired                    a last test whose number is the number of the list fired
 --   factor-fits short-factor short-rest   the test of the places of work, in steps that fit a word
 --   either-false             of two tests that are one, neither fired
@@ -104,6 +106,21 @@ passed (suc k) (t ∷ ts) {r} h none =
         → ((b ≡ false) × Passed (take k ts)) × (first (drop k ts) ≡ r)
     step true h other rest = absurd (other h)
     step false h other rest = ((refl, rest h .0), rest h .1)
+
+pub first-passed : (ts : List Test) → Passed ts → first ts ≡ 0
+unfolding first Passed
+first-passed [] h = refl
+first-passed (t ∷ ts) h = rw (h .0) (first-passed ts (h .1))
+
+pub first-same : (ts us vs : List Test) → (Passed ts → first us ≡ first vs) → first (ts ++ us) ≡ first (ts ++ vs)
+unfolding first Passed
+first-same [] us vs h = h tt
+first-same (t ∷ ts) us vs h = step (t .fires) refl (λ p. first-same ts us vs p)
+  where
+    step : (b : Bool) → t .fires ≡ b → ((Passed ts → first us ≡ first vs) → first (ts ++ us) ≡ first (ts ++ vs))
+        → cond b (t .number) (first (ts ++ us)) ≡ cond b (t .number) (first (ts ++ vs))
+    step true e rest = refl
+    step false e rest = rest (λ p. h (e, p))
 
 pub fired : (n : ℕ) (b : Bool) → eqb 0 n ≡ false → first (test n b ∷ []) ≡ n → b ≡ true
 unfolding first test

@@ -1,37 +1,55 @@
--- How long a text is.
+-- The coefficients of a text, and how long a text is.
 --
---   spaced-one         one coefficient
+--   spaced-first       the first coefficient
 --   spaced-next        one coefficient more
---   spaced-length      coefficients of at most k digits each
---   accepted-length    an accepted answer of an order below 100 and at most 64 coefficients
---   refused-length     a refusal
+--   spaced-part        a first part of the coefficients is not longer
+--   spaced-length      coefficients of 32 bits
+--   length-accepted length-refused   the length of an answer, by its parts
+--   accepted-length    the most bytes of an accepted answer of an order below 100 and at most 64 coefficients
+--   refused-length     the most bytes of a refusal
 -- Assumes nothing.
 use Prim.Native.Nat.{ℕ, zero, suc, _+_, _*_, _-_, _^_, _<_, _≤_}
-use native.Mathlib.Nat.{suc-mul}
+use native.Mathlib.Numerals.{add-one}
 use native.Mathlib.Omega.{arith}
-use lib.ListN.{length, getD, length-append}
+use lib.ListN.{length, getD, take, length-append}
+use lib.Seq.{length-take-le, take-suc}
 use mathlib.Core.List.{List, [], _∷_, _++_, append-assoc}
 use mathlib.Core.Path.{_≡_, refl, sym, _∙_}
-use Rattle.definition.specs.Text.{accepted, decimal, lineEnd, noLead, okLead, refused, rendered, space, spaced}
+use Rattle.definition.specs.Text.{accepted, decimal, noLead, okLead, refused, rendered, space, spaced}
 use Rattle.render.specs.Decimal.{decimal-length, long-length, word-length}
 
-pub spaced-one : (c : ℕ) → spaced (c ∷ []) ≡ decimal c
+pub spaced-first : (l : List ℕ) → 0 < length l → spaced (take 1 l) ≡ decimal (getD l 0 0)
 unfolding spaced
-spaced-one c = refl
+spaced-first [] h = absurd (omega arith)
+spaced-first (c ∷ l) h = refl
 
-pub spaced-next : (l : List ℕ) (c : ℕ) → 0 < length l → spaced (l ++ (c ∷ [])) ≡ spaced l ++ space ∷ decimal c
+spaced-snoc : (l : List ℕ) (c : ℕ) → 0 < length l → spaced (l ++ (c ∷ [])) ≡ spaced l ++ space ∷ decimal c
 unfolding spaced
-spaced-next [] c h = absurd (omega arith)
-spaced-next (b ∷ []) c h = refl
-spaced-next (b ∷ d ∷ l) c h = rw (spaced-next (d ∷ l) c (omega arith)) (sym (append-assoc (decimal b) _ _))
+spaced-snoc [] c h = absurd (omega arith)
+spaced-snoc (b ∷ []) c h = refl
+spaced-snoc (b ∷ d ∷ l) c h = rw (spaced-snoc (d ∷ l) c (omega arith)) (sym (append-assoc (decimal b) _ _))
 
-pub spaced-length : (k : ℕ) (l : List ℕ) → 0 < k → ((i : ℕ) → i < length l → getD l i 0 < 10 ^ k) → length (spaced l) ≤ length l * suc k - 1
+pub spaced-next : (l : List ℕ) (i : ℕ) → 0 < i → i < length l → spaced (take (i + 1) l) ≡ spaced (take i l) ++ space ∷ decimal (getD l i 0)
+spaced-next l i positive inside =
+    let size = length-take-le i l (omega arith) in
+    rw (add-one, take-suc l i 0 inside) (spaced-snoc (take i l) (getD l i 0) (omega arith))
+
+pub spaced-part : (i : ℕ) (l : List ℕ) → length (spaced (take i l)) ≤ length (spaced l)
 unfolding spaced
-spaced-length k [] h below = omega arith
-spaced-length k (c ∷ []) h below = rw suc-mul (omega (arith, decimal-length k c (below 0 (omega arith)) h))
-spaced-length k (c ∷ d ∷ l) h below =
-    let rest = spaced-length k (d ∷ l) h (λ i inside. below (suc i) (omega arith)) in
-    rw (length-append, suc-mul) (omega (arith, decimal-length k c (below 0 (omega arith)) h, rest))
+spaced-part zero l = omega arith
+spaced-part (suc i) [] = omega arith
+spaced-part (suc zero) (c ∷ []) = omega arith
+spaced-part (suc (suc i)) (c ∷ []) = omega arith
+spaced-part (suc zero) (c ∷ d ∷ l) = rw length-append (omega arith)
+spaced-part (suc (suc i)) (c ∷ d ∷ l) = rw (length-append, length-append) (omega (arith, spaced-part (suc i) (d ∷ l)))
+
+pub spaced-length : (l : List ℕ) → ((i : ℕ) → i < length l → getD l i 0 < 2 ^ 32) → length (spaced l) ≤ length l * 11 - 1
+unfolding spaced
+spaced-length [] below = omega arith
+spaced-length (c ∷ []) below = word-length c (below 0 (omega arith))
+spaced-length (c ∷ d ∷ l) below =
+    let rest = spaced-length (d ∷ l) (λ i inside. below (suc i) (omega arith)) in
+    rw length-append (omega (arith, word-length c (below 0 (omega arith))))
 
 pub length-accepted : (n weight : ℕ) (l : List ℕ) → length (accepted n weight l) ≡ 6 + length (decimal n) + length (decimal weight) + length (spaced l)
 unfolding accepted okLead
@@ -46,7 +64,7 @@ pub accepted-length : (n weight : ℕ) (l : List ℕ) → n < 100 → weight < 2
 unfolding rendered
 accepted-length n weight l order word places below =
     rw length-accepted
-    (omega (arith, decimal-length 2 n order (omega arith), long-length weight word, spaced-length 10 l (omega arith) (λ i inside. omega (arith, below i inside))))
+    (omega (arith, decimal-length 2 n order (omega arith), long-length weight word, spaced-length l below))
 
 pub refused-length : (number n weight : ℕ) (l : List ℕ) → 0 < number → number < 2 ^ 32 → length (rendered number n weight l) ≤ 14
 unfolding rendered

@@ -1,12 +1,11 @@
 // The call render: the printed answer, measured and then written into the lent text buffer.
 ghost use lib.ListN.{length};
-ghost use mathlib.Core.List.{[], _∷_};
+ghost use mathlib.Core.List.{[], _∷_, _++_};
 ghost use mathlib.Core.Path.{_≡_};
 ghost use Prim.Native.Nat.{_+_, _<_, _≤_};
 ghost use Rattle.definition.specs.Calls.{Render};
-ghost use Rattle.definition.specs.Refusal.{first};
 ghost use Rattle.definition.specs.Text.{accepted, decimal, refused, rendered, space, spaced};
-ghost use Rattle.refusal.specs.Tests.{listTests};
+ghost use Rattle.refusal.specs.Tests.{Passed, listTests};
 ghost use Rattle.render.specs.Writing.{Written};
 
 // What rendering answers: the number, and the count of bytes written (0 where it is refused).
@@ -64,7 +63,7 @@ fn refused_places(number: u32) -> usize
 
 // The count of bytes of the answer, where its order and its list are not refused.
 fn rendered_places(number: u32, n: usize, weight: u64, list: &[u32]) -> usize
-    ensures { λ r. ⌜ (first (listTests number n (length (now (list .entry)))) ≡ 0
+    ensures { λ r. ⌜ (Passed (listTests number n (length (now (list .entry))))
         → r ≡ length (rendered number n weight (now (list .entry)))) ⌝ }
 {
     if refusal::list_number(number, n, list.len()) != 0 {
@@ -110,13 +109,21 @@ fn write_decimal(v: u64, text: &mut [u8], at: usize) -> usize
     write_digit(v % 10, text, last)
 }
 
+// Writes a lead and the digits of v.
+fn write_after(lead: &[u8], v: u64, text: &mut [u8], at: usize) -> usize
+    requires { ⌜ at + length (now lead ++ decimal v) ≤ length (now text) ⌝ }
+    ensures { λ r. ⌜ Written (now (lead .entry) ++ decimal v) at (now (text .entry)) (now (text .exit)) r ⌝ }
+{
+    let next = write_bytes(lead, text, at);
+    write_decimal(v, text, next)
+}
+
 // Writes one more coefficient, with the space before it.
 fn write_next(coefficient: u32, text: &mut [u8], at: usize) -> usize
     requires { ⌜ at + length (space ∷ decimal coefficient) ≤ length (now text) ⌝ }
     ensures { λ r. ⌜ Written (space ∷ decimal coefficient) at (now (text .entry)) (now (text .exit)) r ⌝ }
 {
-    let digits = write_bytes(b" ", text, at);
-    write_decimal(coefficient as u64, text, digits)
+    write_after(b" ", coefficient as u64, text, at)
 }
 
 // Writes the coefficients with single spaces.
@@ -138,10 +145,8 @@ fn write_accepted(n: usize, weight: u64, list: &[u32], text: &mut [u8]) -> usize
     requires { ⌜ (0 < length (now list)) × (length (accepted n weight (now list)) ≤ length (now text)) ⌝ }
     ensures { λ r. ⌜ Written (accepted n weight (now (list .entry))) 0 (now (text .entry)) (now (text .exit)) r ⌝ }
 {
-    let next = write_bytes(b"ok ", text, 0);
-    let next = write_decimal(n as u64, text, next);
-    let next = write_bytes(b" ", text, next);
-    let next = write_decimal(weight, text, next);
+    let next = write_after(b"ok ", n as u64, text, 0);
+    let next = write_after(b" ", weight, text, next);
     let next = write_bytes(b"\n", text, next);
     let next = write_spaced(list, text, next);
     write_bytes(b"\n", text, next)
@@ -152,14 +157,13 @@ fn write_refused(number: u32, text: &mut [u8]) -> usize
     requires { ⌜ length (refused number) ≤ length (now text) ⌝ }
     ensures { λ r. ⌜ Written (refused number) 0 (now (text .entry)) (now (text .exit)) r ⌝ }
 {
-    let next = write_bytes(b"no ", text, 0);
-    let next = write_decimal(number as u64, text, next);
+    let next = write_after(b"no ", number as u64, text, 0);
     write_bytes(b"\n", text, next)
 }
 
 // Writes the answer.
 fn write_rendered(number: u32, n: usize, weight: u64, list: &[u32], text: &mut [u8]) -> usize
-    requires { ⌜ (first (listTests number n (length (now list))) ≡ 0)
+    requires { ⌜ Passed (listTests number n (length (now list)))
         × (length (rendered number n weight (now list)) ≤ length (now text)) ⌝ }
     ensures { λ r. ⌜ Written (rendered number n weight (now (list .entry))) 0 (now (text .entry)) (now (text .exit)) r ⌝ }
 {
