@@ -8,7 +8,7 @@ use Rattle.job.proofs.print.Statement.{statement}
 use Rattle.job.proofs.print.Tie as tie
 
 render-requires : tie.Need-render-requires
-render-requires c κs = ?
+render-requires c κs = search needs
 
 returns : tie.Need-returns
 returns c =
