@@ -5,6 +5,7 @@
 --   Printable, Printed the answers that rendering prints into 731 bytes, and what it leaves
 --   printed            it prints them
 --   solution-printable, solution-printed   the solution of a job is one of them, and its printed form is the answer to the file
+--   answer-within      the answer lies in the text
 -- Assumes nothing.
 use Prim.Native.Nat.{ℕ, zero, suc, _^_, _<_, _≤_}
 use native.Mathlib.Omega.{arith}
@@ -142,3 +143,7 @@ module _ {file output : List ℕ} {number n weight′ : ℕ} (solution : Solutio
     counts = p .counts ∙ ap length same-text;
     writes = p .writes ∙ ap (λ t. overwritten t text) same-text;
   }
+
+pub answer-within : {file text text′ : List ℕ} {count : ℕ} → Job file text text′ count → count ≤ length text′
+unfolding overwritten
+answer-within {file} {text} job = rw (job .writes, length-append) (omega (arith, job .counts))

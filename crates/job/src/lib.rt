@@ -21,7 +21,7 @@ const MOST_PLACES: u32 = 64;
 
 // The bytes of the longest answer: `ok `, 2 digits of order, a space, 20 digits of weight, a line end, and 64 coefficients of 10 digits, each
 // with a space or a line end after it.
-const LONGEST: usize = 731;
+pub const LONGEST: usize = 731;
 
 fn wide(byte: u8) -> u32
     ensures { λ r. ⌜ (r ≡ byte) × (r < 256) ⌝ }
