@@ -1,0 +1,73 @@
+-- `job::too_large` meets its contract: what its tests ensure, one after the other. Assumes nothing.
+use borrow.Author.Needs.{needs}
+use borrow.Author.Tests.{le-leb, le-ltb, lt-leb, lt-ltb}
+use mathlib.Core.Path.{sym, _∙_}
+use Rattle.definition.specs.Job.{headerBytes, mostBytes, mostPlaces, order, tooLarge}
+use Rattle.job.proofs.too_large.Statement.{statement}
+use Rattle.job.proofs.too_large.Tie as tie
+
+returns : tie.Need-returns
+unfolding mostBytes tooLarge
+returns c = rw (lt-ltb 4096 _ (c .if1 .taken))
+
+returns-2 : tie.Need-returns-2
+unfolding headerBytes mostBytes tooLarge
+returns-2 c = rw (le-ltb 4096 _ (c .before .if1 .left), lt-leb 28 _ (c .if2 .taken))
+
+field-requires : tie.Need-field-requires
+field-requires c κs = search needs
+
+returns-3 : tie.Need-returns-3
+unfolding headerBytes mostBytes mostPlaces order tooLarge
+returns-3 c =
+    let whole = c .before .before in
+    rw (le-ltb 4096 _ (whole .before .if1 .left), le-leb 28 _ (whole .if2 .left), ← c .before .field .ensures, lt-ltb 64 _ (c .if3 .taken))
+
+field-requires-2 : tie.Need-field-requires-2
+field-requires-2 c κs = search needs
+
+returns-4 : tie.Need-returns-4
+unfolding headerBytes mostBytes mostPlaces order tooLarge
+returns-4 c =
+    let first = c .before .before in
+    let whole = first .before .before in
+    rw (
+      le-ltb 4096 _ (whole .before .if1 .left),
+      le-leb 28 _ (whole .if2 .left),
+      ← first .before .field .ensures,
+      le-ltb 64 _ (first .if3 .left),
+      ← c .before .field2 .ensures,
+      lt-ltb 64 _ (c .if4 .taken),
+    )
+
+field-requires-3 : tie.Need-field-requires-3
+field-requires-3 c κs = search needs
+
+returns-5 : tie.Need-returns-5
+unfolding headerBytes mostBytes mostPlaces order tooLarge
+returns-5 c =
+    let second = c .before in
+    let first = second .before .before in
+    let whole = first .before .before in
+    rw (
+      le-ltb 4096 _ (whole .before .if1 .left),
+      le-leb 28 _ (whole .if2 .left),
+      ← first .before .field .ensures,
+      le-ltb 64 _ (first .if3 .left),
+      ← second .before .field2 .ensures,
+      le-ltb 64 _ (second .if4 .left),
+      ← c .field3 .ensures,
+    )
+
+pub too-large-spec : {M : Type 1} → statement M
+too-large-spec =
+    tie.close
+    (tie.spec
+    returns
+    returns-2
+    field-requires
+    returns-3
+    field-requires-2
+    returns-4
+    field-requires-3
+    returns-5)
