@@ -17,6 +17,9 @@ STEPS = [
     PROOFS,
     "wrong-definitions",
     "linked",
+    "c-interface",
+    "joiner",
+    "job-tool",
 ]
 
 

@@ -106,6 +106,20 @@ impl Library for Both {
         let input = Input { route, p, n, done, inner: list.to_vec(), ..Input::default() };
         both(Call::Cycle, input, running, work)
     }
+
+    fn table(index: u64) -> (u32, u32) {
+        let found = Linked::table(index);
+        assert_eq!(found, Plain::table(index), "index {index}");
+        found
+    }
+
+    fn render(number: u32, n: u64, weight: u64, list: &[u32], text: &mut [u8]) -> (u32, u64) {
+        let mut other = text.to_vec();
+        let found = Linked::render(number, n, weight, list, text);
+        let wanted = Plain::render(number, n, weight, list, &mut other);
+        assert_eq!((found, &*text), (wanted, &*other), "{:?}", (number, n, weight, list));
+        found
+    }
 }
 
 /// One call of both, with these buffers.

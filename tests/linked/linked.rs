@@ -1,4 +1,4 @@
-//! The calls of the static libraries: compose and reverse of the C interface, opening and cycle of `trial`.
+//! The calls of the static libraries: those of the C interface, and opening and cycle of `trial`.
 
 use crate::checks::library::Library;
 use crate::plain::calls::Answer;
@@ -8,6 +8,18 @@ use crate::plain::chain::Chain;
 struct CallAnswer {
     number: u32,
     weight: u64,
+}
+
+#[repr(C)]
+struct PrimeAnswer {
+    number: u32,
+    prime: u32,
+}
+
+#[repr(C)]
+struct TextAnswer {
+    number: u32,
+    count: usize,
 }
 
 #[repr(C)]
@@ -45,6 +57,18 @@ extern "C" {
         work: *mut u32,
         work_count: usize,
     ) -> CallAnswer;
+
+    fn ruhitapo_prime(index: u32) -> PrimeAnswer;
+
+    fn ruhitapo_render(
+        number: u32,
+        n: usize,
+        weight: u64,
+        list: *const u32,
+        list_count: usize,
+        text: *mut u8,
+        text_count: usize,
+    ) -> TextAnswer;
 
     fn trial_open(p: u32, n: usize, running: *mut u32, running_count: usize) -> ChainAnswer;
 
@@ -111,6 +135,19 @@ impl Library for Linked {
         chain(unsafe {
             trial_cycle(p, n, done, route, list, list_count, running, count, work, work_count)
         })
+    }
+
+    fn table(index: u64) -> (u32, u32) {
+        let PrimeAnswer { number, prime } = unsafe { ruhitapo_prime(word(index)) };
+        (number, prime)
+    }
+
+    fn render(number: u32, n: u64, weight: u64, list: &[u32], text: &mut [u8]) -> (u32, u64) {
+        let (n, list, list_count) = (n as usize, list.as_ptr(), list.len());
+        let (text_count, text) = (text.len(), text.as_mut_ptr());
+        let found =
+            unsafe { ruhitapo_render(number, n, weight, list, list_count, text, text_count) };
+        (found.number, found.count as u64)
     }
 }
 

@@ -1,7 +1,7 @@
 //! The calls of the proved library, linked as a static library, held against the plain second
-//! implementation: number, weight, chain record, output and the whole work buffer of every call.
-//! The checks that the second implementation makes of itself are made of both. The seed of the
-//! random cases is the first argument.
+//! implementation: number, weight, chain record, output and the whole work or text buffer of every
+//! call; and the job program, run on files. The checks that the second implementation makes of
+//! itself are made of them too. The seed of the random cases is the first argument.
 
 mod chain;
 #[allow(dead_code)]
@@ -12,6 +12,7 @@ mod linked;
 #[allow(dead_code)]
 #[path = "../second/plain/mod.rs"]
 mod plain;
+mod program;
 mod published;
 mod refusals;
 mod reverse;
@@ -19,11 +20,12 @@ mod shapes;
 mod traps;
 
 use checks::support::{run, Check};
-use checks::{calls, equality, reversion, settled};
+use checks::{calls, equality, job, primes, render, reversion, settled};
 use compare::Both;
+use program::Built;
 use std::process::ExitCode;
 
-const GROUPS: [(&str, Check); 34] = [
+const GROUPS: [(&str, Check); 46] = [
     ("settled examples", settled::examples::<Both>),
     ("edges", settled::edges::<Both>),
     ("every small shape", shapes::every_small),
@@ -58,6 +60,18 @@ const GROUPS: [(&str, Check); 34] = [
     ("chain: order 4096", chain::largest_order),
     ("equality: random pairs", equality::random_pairs::<Both>),
     ("equality: exhaustive pairs", equality::exhaustive_pairs::<Both>),
+    ("table", primes::table::<Both>),
+    ("edges of the table and of rendering", settled::other_edges::<Both>),
+    ("rendering", render::render::<Both>),
+    ("rendering: powers of ten", render::powers_of_ten::<Both>),
+    ("rendering: the longest text", render::longest::<Both>),
+    ("program: whole case", settled::whole_case::<Built>),
+    ("program: job files", job::job::<Built>),
+    ("program: every beginning of a file", job::beginnings::<Built>),
+    ("program: overlapping lists", job::overlaps::<Built>),
+    ("program: offsets far past the file", job::far_offsets::<Built>),
+    ("program: damaged files, random bytes", program::damaged),
+    ("program: pieces and long files", program::arrivals),
 ];
 
 fn main() -> ExitCode {

@@ -64,7 +64,8 @@ pub fn damaged(tally: &mut Tally, random: &mut Random) {
         let mut file = small_job(random);
         for _ in 0..random.count(1, 3) {
             let place = random.count(0, file.len() - 1);
-            file[place] = random.pick(&[0, 1, 7, 64, 65, 255, random.below(256) as u8]);
+            let any = random.below(256) as u8;
+            file[place] = random.pick(&[0, 1, 7, 64, 65, 255, any]);
         }
         same(tally, &file);
         let length = random.count(0, 80);
