@@ -7,15 +7,14 @@
 -- Assumes nothing.
 use Prim.Native.Nat.{ℕ, zero, suc, _≤_}
 use native.Mathlib.Nat.{zero-add}
-use mathlib.Core.List.{List, [], _∷_}
+use mathlib.Core.List.{List}
 use mathlib.Core.Logic.{_≢_}
 use mathlib.Core.Path.{_≡_, refl, sym, _∙_}
-use lib.Dec.{ltb}
 use lib.ListN.{length}
 use Rattle.buffer.specs.Written.{sets-front}
 use Rattle.definition.specs.Answer.{overwritten}
 use Rattle.definition.specs.Calls.{Render}
-use Rattle.definition.specs.Refusal.{first, renderRefusal, test}
+use Rattle.definition.specs.Refusal.{renderRefusal}
 use Rattle.definition.specs.Text.{accepted, refused, rendered}
 use Rattle.refusal.specs.Answers.{answered-accepted, answered-refused, kept-accepted, kept-refused}
 use Rattle.refusal.specs.Bounds.{render-bounds}

@@ -3,16 +3,17 @@
 --   decimal-digit    a number below 10 is one digit
 --   decimal-next     the digits of v / 10, and one more
 --   decimal-length   a number below 10 ^ k has at most k digits, where k is not 0
+--   word-length long-length   the most digits of a number of 32 and of 64 bits
 -- Assumes nothing.
-use Prim.Native.Nat.{ℕ, zero, suc, _+_, _*_, _/_, _%_, _^_, _<_, _≤_}
+use Prim.Native.Nat.{ℕ, zero, suc, _+_, _/_, _%_, _^_, _<_, _≤_}
 use native.Mathlib.Nat.{div-lt-iff-lt-mul, pow-suc}
 use native.Mathlib.Omega.{arith}
 use borrow.Author.Tests.{le-ltb, lt-ltb, ltb-false, ltb-true}
 use lib.Dec.{ltb}
 use lib.ListN.{length, length-append}
 use mathlib.Core.Bool.{Bool, true, false}
-use mathlib.Core.List.{List, [], _∷_, _++_}
-use mathlib.Core.Path.{_≡_, refl, sym, _∙_}
+use mathlib.Core.List.{[], _∷_, _++_}
+use mathlib.Core.Path.{_≡_, refl, _∙_}
 use Rattle.definition.specs.Text.{decimal, decimalWithin}
 
 -- one step of the definition: v below 10, and v from 10 on

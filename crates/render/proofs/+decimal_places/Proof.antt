@@ -1,11 +1,9 @@
 -- `render::decimal_places` meets its contract. The measure is the number. Assumes nothing.
 use native.Mathlib.Omega.{arith}
-use Prim.Native.Nat.{ℕ, _+_, _/_, _<_, _≤_}
+use Prim.Native.Nat.{ℕ, _/_, _<_}
 use borrow.Fn.Kinds.{In}
 use borrow.Fn.PlainCycle.{Measures, is, falls, and}
-use lib.ListN.{length, length-append}
-use mathlib.Core.Path.{sym, ap, _∙_}
-use Rattle.definition.specs.Text.{decimal}
+use lib.ListN.{length-append}
 use Rattle.render.specs.Decimal.{decimal-digit, decimal-next, long-length}
 use Rattle.render.proofs.decimal_places.Reads as reads
 use Rattle.render.proofs.decimal_places.Kinds as kinds

@@ -1,6 +1,5 @@
 -- `render::write_next` meets its contract. Assumes nothing.
 use borrow.Author.Needs.{needs}
-use native.Mathlib.Omega.{arith}
 use Rattle.definition.specs.Text.{space}
 use Rattle.render.proofs.write_next.Statement.{statement}
 use Rattle.render.proofs.write_next.Tie as tie

@@ -5,7 +5,7 @@ use Prim.Native.Nat.{ℕ, _+_, _-_, _<_, _≤_}
 use lib.ListN.{length, getD, take}
 use lib.Seq.{take-all}
 use mathlib.Core.List.{List, _∷_}
-use mathlib.Core.Path.{_≡_, refl, sym, ap, _∙_}
+use mathlib.Core.Path.{_≡_, refl, ap}
 use Rattle.definition.specs.Text.{decimal, space, spaced}
 use Rattle.render.specs.Lengths.{spaced-first, spaced-next, spaced-part}
 use Rattle.render.specs.Writing.{Written, room, written-append}
