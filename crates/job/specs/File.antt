@@ -1,19 +1,23 @@
--- What the tests 12 and 13 tell of a file that they let pass.
+-- The lists of a job file, and what the tests 12 and 13 tell of a file that they let pass.
 --
---   Accepted file     neither test fires
---   whole             the header is whole
+--   placed                     a number of a list that is not misplaced lies in the file
+--   list-read                  a list that is read number by number
+--   length-listAt              the length of a list of the file
+--   Stated file k places       the list whose count and offset are the numbers k and k + 1 of the header lies in the file
+--   Front file k list count    that list stands in the first places of another
+--   stated-length, front-read  it is read there
+--   Accepted file              neither test fires; then:
+--   whole                      the header is whole
 --   small-order, small-outer, small-inner    the order and the counts are at most 64
---   outer-placed, inner-placed               neither list is misplaced
---   placed            a number of a list that is not misplaced lies in the file
---   list-read         a list that is read number by number
+--   outer-stated, inner-stated               either list has room in 64 places
 -- Assumes nothing.
 use Prim.Native.Nat.{ℕ, _+_, _*_, _<_, _≤_}
 use native.Mathlib.Omega.{arith}
-use borrow.Author.Tests.{eqb-true, le-leb, ltb-false, ne-eqb, not-false}
+use borrow.Author.Tests.{le-leb, ltb-false, ne-eqb}
 use lib.Dec.{eqb, ltb}
 use lib.ListN.{length, take, length-append}
 use lib.Seq.{length-take-le, take-at}
-use mathlib.Core.Bool.{Bool, true, false, not, true≢false, _&&_, _||_}
+use mathlib.Core.Bool.{false, _||_}
 use mathlib.Core.List.{List, _++_}
 use mathlib.Core.Path.{_≡_, ap, _∙_}
 use Rattle.algebra.specs.Lists.{length-tabulate}
@@ -81,12 +85,6 @@ module _ {file : List ℕ} (accepted : Accepted file) where
   unfolding headerBytes
   whole = ltb-false (length file) 28 (header-lists .0 .0)
 
-  pub outer-placed : misplaced file (field file 3) (field file 4) ≡ false
-  outer-placed = header-lists .0 .1
-
-  pub inner-placed : misplaced file (field file 5) (field file 6) ≡ false
-  inner-placed = header-lists .1
-
   stated : ((order file ≤ 64) × (field file 3 ≤ 64)) × (field file 5 ≤ 64)
   unfolding headerBytes mostPlaces tooLarge
   stated =
@@ -105,7 +103,7 @@ module _ {file : List ℕ} (accepted : Accepted file) where
   small-inner = stated .1
 
   pub outer-stated : {places : ℕ} → 64 ≡ places → Stated file 3 places
-  outer-stated enough = record { header = whole; number = omega arith; room = rw (← enough) small-outer; lies = outer-placed }
+  outer-stated enough = record { header = whole; number = omega arith; room = rw (← enough) small-outer; lies = header-lists .0 .1 }
 
   pub inner-stated : {places : ℕ} → 64 ≡ places → Stated file 5 places
-  inner-stated enough = record { header = whole; number = omega arith; room = rw (← enough) small-inner; lies = inner-placed }
+  inner-stated enough = record { header = whole; number = omega arith; room = rw (← enough) small-inner; lies = header-lists .1 }

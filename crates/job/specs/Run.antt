@@ -1,28 +1,43 @@
--- What the job's composition leaves, and which numbers it can meet.
+-- The composition of a job, and the numbers that it can meet.
 --
---   Composition     compose, on the lists of the file
---   composition     it is a call of compose with an output of exactly n places and just enough work
---   job-numbers     the job program never meets 4 to 7
+--   Lists              the lists of a file that the tests 12 and 13 let pass, and an output of exactly n places
+--   Composition        what compose leaves for a file
+--   lists-few          the order and the outer count are at most 64
+--   work-fits          8704 places are enough work
+--   composition        a call of compose on the lists of a file, with just enough work, is its composition
+--   composition-order  the order of a job that compose accepts is not 0
+--   job-numbers        the job program never meets 4 to 7
 -- Assumes nothing.
 use Prim.Native.Nat.{ℕ, _<_, _≤_}
 use native.Mathlib.Omega.{arith}
 use borrow.Author.Tests.{eq-eqb, le-ltb, ne-eqb}
-use lib.Dec.{eqb}
 use lib.ListN.{length}
-use mathlib.Core.Bool.{Bool, true, false, cond, not, _&&_, _||_}
+use mathlib.Core.Bool.{Bool, true, false, cond, _||_}
 use mathlib.Core.List.{List, [], _∷_}
 use mathlib.Core.Logic.{_≢_}
 use mathlib.Core.Path.{_≡_, refl, sym, ap, _∙_}
-use Rattle.algebra.specs.Lists.{length-tabulate}
 use Rattle.definition.specs.Answer.{answered, kept}
 use Rattle.definition.specs.Calls.{Compose}
-use Rattle.definition.specs.Job.{composeNumber, cutShort, field, inner, jobRefusal, listAt, modulus, order, outer, route, tooLarge, wordOf}
-use Rattle.definition.specs.Refusal.{Test, badModulus, badOrder, badRoute, composeRefusal, composeWork, exceeds, first, limit, notPlaces, test, tooLong}
+use Rattle.definition.specs.Job.{composeNumber, cutShort, field, inner, jobRefusal, modulus, order, outer, route, tooLarge}
+use Rattle.definition.specs.Refusal.{
+  Test,
+  badModulus,
+  badOrder,
+  badRoute,
+  composeRefusal,
+  composeWork,
+  exceeds,
+  first,
+  limit,
+  notPlaces,
+  test,
+  tooLong,
+}
 use Rattle.definition.specs.Substitution.{composed}
 use Rattle.definition.specs.Weight.{weight}
 use Rattle.job.specs.File.{Accepted, length-listAt, small-inner, small-order, small-outer}
 use Rattle.refusal.specs.Bounds.{compose-bounds}
-use Rattle.refusal.specs.Tests.{Passed, absent, passed}
+use Rattle.refusal.specs.Tests.{absent, passed}
 
 length-outer : (file : List ℕ) → length (outer file) ≡ field file 3
 unfolding outer

@@ -1,6 +1,7 @@
 -- From the solution of a job to its printed answer.
 --
---   Solution           the number of a file, and where it is 0 its order, its weight and the composition in the first places of a list
+--   Result             an accepted job: its order, its weight and its composition
+--   Solution           the number of a file, and where it is 0 the result in the first places of a list
 --   solution-large, solution-short, solution-composed   the three ways to it
 --   Printable, Printed the answers that rendering prints into 731 bytes, and what it leaves
 --   printed            it prints them
@@ -15,9 +16,9 @@ use lib.Seq.{length-take-le, take-at}
 use mathlib.Core.Bool.{true, false}
 use mathlib.Core.List.{List, _++_}
 use mathlib.Core.Path.{_≡_, refl, sym, ap, _∙_}
-use Rattle.definition.specs.Answer.{answered, kept, overwritten}
+use Rattle.definition.specs.Answer.{overwritten}
 use Rattle.definition.specs.Calls.{Job, Render}
-use Rattle.definition.specs.Job.{composeNumber, cutShort, field, inner, jobRefusal, jobText, modulus, order, outer, route, tooLarge}
+use Rattle.definition.specs.Job.{cutShort, field, inner, jobRefusal, jobText, modulus, order, outer, route, tooLarge}
 use Rattle.definition.specs.Refusal.{badOrder, first, limit, notPlaces, renderRefusal, test}
 use Rattle.definition.specs.Substitution.{composed}
 use Rattle.definition.specs.Text.{rendered}
@@ -27,7 +28,7 @@ use Rattle.job.specs.Run.{Composition, composition-order}
 use Rattle.refusal.specs.Answers.{answered-accepted, kept-accepted}
 use Rattle.render.specs.Lengths.{accepted-length, refused-length}
 
--- what number 0 tells
+-- the composition, where the number is 0
 pub record Result (file l : List ℕ) (n weight′ : ℕ) : Type 0 where
   pub positive : 0 < n
   pub stated : n ≡ order file
@@ -138,7 +139,8 @@ module _ {file output : List ℕ} {number n weight′ : ℕ} (solution : Solutio
     positive = λ e. solution .result e .positive;
   }
 
-  pub solution-printed : {text text′ : List ℕ} {count : ℕ} → Printed (rendered number n weight′ (take n output)) text text′ count → Job file text text′ count
+  pub solution-printed : {text text′ : List ℕ} {count : ℕ} → Printed (rendered number n weight′ (take n output)) text text′ count
+      → Job file text text′ count
   solution-printed {text} p = record {
     counts = p .counts ∙ ap length same-text;
     writes = p .writes ∙ ap (λ t. overwritten t text) same-text;

@@ -23,6 +23,7 @@ const MOST_PLACES: u32 = 64;
 // with a space or a line end after it.
 pub const LONGEST: usize = 731;
 
+// A byte as a 32-bit number.
 fn wide(byte: u8) -> u32
     ensures { λ r. ⌜ (r ≡ byte) × (r < 256) ⌝ }
 {

@@ -1,9 +1,8 @@
 -- `job::answer` meets its contract. Assumes nothing.
 use borrow.Author.Needs.{needs}
-use native.Mathlib.Omega.{arith}
 use lib.Seq.{length-take-le}
-use mathlib.Core.Path.{sym, _∙_}
-use Rattle.job.specs.Solved.{printed, solution-printable, solution-printed}
+use mathlib.Core.Path.{sym}
+use Rattle.job.specs.Solved.{solution-printable, solution-printed}
 use Rattle.job.proofs.answer.Statement.{statement}
 use Rattle.job.proofs.answer.Tie as tie
 

@@ -1,6 +1,8 @@
 -- `job::compose_lists` meets its contract. Assumes nothing.
 use borrow.Author.Needs.{needs}
 use native.Mathlib.Omega.{arith}
+use Prim.Native.Nat.{_≤_}
+use lib.ListN.{length}
 use lib.Seq.{length-take-le}
 use mathlib.Core.Path.{sym, _∙_}
 use Rattle.job.specs.File.{whole}
@@ -23,16 +25,18 @@ field-requires c κs = (whole (c .before .before .before .before .before .before
 field-requires-2 : tie.Need-field-requires-2
 field-requires-2 c κs = (whole (c .before .before .before .before .before .before .before .pre .accepted), search needs)
 
+module _ (c : tie.After-work-places2) where
+  abbrev begin : tie.Start
+  begin = c .before .before .before .before .before .before
+
+  enough : c .work-places2 .result ≤ length (c .before .work-places .result)
+  enough = work-fits (begin .pre) (c .before .work-places .result) (c .work-places2 .ensures) (c .before .work-places .ensures)
+
 array-borrow-prefix-work : tie.Need-array-borrow-prefix-work
-array-borrow-prefix-work c =
-    let end = c .before .before .before in
-    work-fits (end .before .before .before .before .before .before .pre) (end .before .work-places .result) (end .work-places2 .ensures) (end .before .work-places .ensures)
+array-borrow-prefix-work c = enough (c .before .before .before)
 
 slice-aggregate-compose : tie.Need-slice-aggregate-compose
-slice-aggregate-compose c =
-    let end = c .before .before .before .before in
-    sym (length-take-le _ _
-    (work-fits (end .before .before .before .before .before .before .pre) (end .before .work-places .result) (end .work-places2 .ensures) (end .before .work-places .ensures)))
+slice-aggregate-compose c = sym (length-take-le _ _ (enough (c .before .before .before .before)))
 
 compose-requires : tie.Need-compose-requires
 compose-requires c κs = search needs
@@ -46,9 +50,8 @@ returns c =
     let second = composed .before .before .before in
     let first = second .before in
     let end = first .before in
-    let lists = end .before .before .before .before .before .before .pre in
-    let size = length-take-le _ _ (work-fits lists (end .before .work-places .result) (end .work-places2 .ensures) (end .before .work-places .ensures)) ∙ end .work-places2 .ensures in
-    composition lists (first .field .ensures) (second .field2 .ensures) size (composed .compose .ensures)
+    let size = length-take-le _ _ (enough end) ∙ end .work-places2 .ensures in
+    composition (begin end .pre) (first .field .ensures) (second .field2 .ensures) size (composed .compose .ensures)
 
 pub compose-lists-spec : {M : Type 1} → statement M
 compose-lists-spec =

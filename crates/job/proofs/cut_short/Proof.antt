@@ -1,14 +1,18 @@
 -- `job::cut_short` meets its contract: what its tests ensure, one after the other. Assumes nothing.
 use borrow.Author.Needs.{needs}
+use native.Mathlib.Omega.{arith}
+use Prim.Native.Nat.{_<_}
+use lib.ListN.{length}
 use borrow.Author.Tests.{le-ltb, lt-ltb}
-use mathlib.Core.Path.{sym, _∙_}
 use Rattle.definition.specs.Job.{cutShort, headerBytes}
 use Rattle.job.proofs.cut_short.Statement.{statement}
 use Rattle.job.proofs.cut_short.Tie as tie
 
 returns : tie.Need-returns
 unfolding cutShort headerBytes
-returns c = rw (lt-ltb _ 28 (c .if1 .taken))
+returns c =
+    let short : length (c .before .before .args .file .now) < 28 = omega (arith, c .if1 .taken) in
+    rw (lt-ltb _ 28 short)
 
 field-requires : tie.Need-field-requires
 field-requires c κs = search needs

@@ -1,5 +1,7 @@
 -- `job::misplaced` meets its contract. Assumes nothing.
 use borrow.Author.Needs.{needs}
+use native.Mathlib.Omega.{arith}
+use Prim.Native.Nat.{_<_}
 use borrow.Author.Tests.{eq-eqb, le-ltb, lt-ltb, ne-eqb}
 use Rattle.definition.specs.Job as job
 use Rattle.job.proofs.misplaced.Statement.{statement}
@@ -11,7 +13,9 @@ returns c = rw (eq-eqb _ 0 (c .if1 .taken))
 
 returns-2 : tie.Need-returns-2
 unfolding job.headerBytes job.misplaced
-returns-2 c = rw (ne-eqb _ 0 (c .before .if1 .left), lt-ltb _ 28 (c .if2 .taken))
+returns-2 c =
+    let low : c .before .before .args .at < 28 = omega (arith, c .if2 .taken) in
+    rw (ne-eqb _ 0 (c .before .if1 .left), lt-ltb _ 28 low)
 
 mul-result : tie.Need-mul-result
 mul-result c = search needs

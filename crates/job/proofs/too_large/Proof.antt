@@ -1,7 +1,9 @@
 -- `job::too_large` meets its contract: what its tests ensure, one after the other. Assumes nothing.
 use borrow.Author.Needs.{needs}
+use native.Mathlib.Omega.{arith}
+use Prim.Native.Nat.{_<_}
+use lib.ListN.{length}
 use borrow.Author.Tests.{le-leb, le-ltb, lt-leb, lt-ltb}
-use mathlib.Core.Path.{sym, _∙_}
 use Rattle.definition.specs.Job.{headerBytes, mostBytes, mostPlaces, order, tooLarge}
 use Rattle.job.proofs.too_large.Statement.{statement}
 use Rattle.job.proofs.too_large.Tie as tie
@@ -12,7 +14,9 @@ returns c = rw (lt-ltb 4096 _ (c .if1 .taken))
 
 returns-2 : tie.Need-returns-2
 unfolding headerBytes mostBytes tooLarge
-returns-2 c = rw (le-ltb 4096 _ (c .before .if1 .left), lt-leb 28 _ (c .if2 .taken))
+returns-2 c =
+    let short : length (c .before .before .before .args .file .now) < 28 = omega (arith, c .if2 .taken) in
+    rw (le-ltb 4096 _ (c .before .if1 .left), lt-leb 28 _ short)
 
 field-requires : tie.Need-field-requires
 field-requires c κs = search needs

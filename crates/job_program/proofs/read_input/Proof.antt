@@ -1,6 +1,5 @@
 -- `job_program::read_input` meets its contract: the count stays within the buffer, and each turn leaves fewer bytes to read. Assumes nothing.
 use borrow.Author.Needs.{needs}
-use native.Mathlib.Omega.{arith}
 use Prim.Native.Nat.{_-_, _≤_}
 use lib.ListN.{length}
 use mathlib.Core.Path.{_≡_}
