@@ -14,6 +14,7 @@ LINKED := target/tests/linked
 BENCH := target/tests/bench
 C_INTERFACE := target/tests/c_interface
 EXAMPLES := target/examples
+CRATES := crates.txt $(shell find crates -type f)
 PLAIN := $(wildcard tests/second/*.rs tests/second/*/*.rs)
 RUSTC := rustc --edition 2021 -O -D warnings
 PROGRAM := target/bin/job_program
@@ -96,9 +97,10 @@ flint:
 	apt-get update && apt-get install -y libflint-dev
 
 # the static libraries, each proved before it is written: the C interface, and the calls of a chain for the comparison tests
-library: tools
-	rt staticlib ruhitapo
-	rt staticlib trial
+library: tools $(ARCHIVE) target/staticlib/libtrial.a
+
+target/staticlib/lib%.a: $(CRATES)
+	rt staticlib $*
 
 # the definitions, held against the second implementation: the prover computes seeded equations in a repository of their own
 definitions: tools $(DEFINITIONS)
