@@ -4,6 +4,8 @@ second implementation must refuse it. A wrong definition that is refused by itse
 
 Usage: refused.py EQUATIONS, with the repository of the definitions and the equations that 'make definitions' wrote.
 """
+import concurrent.futures
+import os
 import pathlib
 import shutil
 import subprocess
@@ -22,28 +24,37 @@ def check(room, crate):
 def refused(equations, edit):
     """Makes the edit in a copy and says what refused it; None where nothing did."""
     name, old, new = (line.split(": ", 1)[1] for line in edit.read_text(encoding="utf-8").splitlines())
-    room = equations.with_name("refused")
+    room = equations.with_name("refused") / edit.stem
     shutil.rmtree(room, ignore_errors=True)
     shutil.copytree(equations, room, ignore=shutil.ignore_patterns("target"))
     file = room / "crates" / "definition" / name
     text = file.read_text(encoding="utf-8")
     if text.count(old) != 1:
-        sys.exit(f"{edit.name}: its old text stands {text.count(old)} times in {name}")
+        raise ValueError(f"its old text stands {text.count(old)} times in {name}")
     file.write_text(text.replace(old, new), encoding="utf-8")
     if not check(room, "definition")[0]:
-        sys.exit(f"{edit.name}: the definition is not admitted, so the edit shows nothing")
+        raise ValueError("the definition is not admitted, so the edit shows nothing")
     admitted, error = check(room, "equations")
     return None if admitted else error
+
+
+def tried(equations, edit):
+    """Whether the edit was refused, and the line that says so."""
+    try:
+        error = refused(equations, edit)
+    except ValueError as fault:
+        return False, f"{edit.stem}: {fault}"
+    return error is not None, f"{edit.stem}: {'NOT REFUSED' if error is None else 'refused: ' + error}"
 
 
 def main():
     equations = pathlib.Path(sys.argv[1])
     edits = sorted(EDITS.glob("*.edit"))
     passed = 0
-    for edit in edits:
-        error = refused(equations, edit)
-        passed += error is not None
-        print(f"{edit.stem}: {'NOT REFUSED' if error is None else 'refused: ' + error}", flush=True)
+    with concurrent.futures.ThreadPoolExecutor(os.cpu_count()) as pool:
+        for ok, line in pool.map(lambda edit: tried(equations, edit), edits):
+            passed += ok
+            print(line, flush=True)
     print(f"{passed} passed, {len(edits) - passed} failed")
     sys.exit(0 if edits and passed == len(edits) else 1)
 

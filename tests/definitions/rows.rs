@@ -131,7 +131,8 @@ fn text(random: &mut Random) -> String {
     format!("rendered {number} {n} {weight} {} ≡ {}", list(&coefficients), list(&bytes))
 }
 
-/// A job file, whole, cut anywhere, cut within its last number, or with another number in its header.
+/// A job file, whole, cut anywhere, cut within its last number, or with another number in its header,
+/// as a count of 65, which is too large and leaves the list past the end.
 fn file(random: &mut Random) -> String {
     let p = random.pick(&PRIMES);
     let (outer, inner) = (random.count(0, 3), random.count(0, 3));
@@ -143,7 +144,10 @@ fn file(random: &mut Random) -> String {
     match random.below(4) {
         0 => bytes.truncate(random.count(0, bytes.len())),
         1 => bytes.truncate(bytes.len() - random.count(1, 4)),
-        2 => bytes[4 * random.count(2, 6)] = random.below(80) as u8,
+        2 => {
+            let any = random.below(80) as u8;
+            bytes[4 * random.count(2, 6)] = random.pick(&[any, 27, 64, 65]);
+        }
         _ => {}
     }
     format!("jobText {} ≡ {}", list(&bytes), list(&job::run(&bytes)))
