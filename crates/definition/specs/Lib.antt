@@ -13,9 +13,10 @@
 --   Taylor         the coefficients in powers of (z - c) that decide whether two answers are equal
 --   Reversion      the reverse series
 --   Chain          the running series after some cycles
---   Calls          what compose, reverse, the opening of a chain and a cycle promise
+--   Calls          what each call promises
 --   Text           decimal digits and the two printed forms
 --   Job            the job file
+--   Determined     a theorem: what a call promises determines its whole answer
 pub mod Lists
 pub mod Substitution
 pub mod Ranged
@@ -32,3 +33,4 @@ pub mod Chain
 pub mod Calls
 pub mod Text
 pub mod Job
+pub mod Determined

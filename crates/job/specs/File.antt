@@ -6,6 +6,7 @@
 --   Stated file k places       the list whose count and offset are the numbers k and k + 1 of the header lies in the file
 --   Front file k list count    that list stands in the first places of another
 --   stated-length, front-read  it is read there
+--   header-large               the test 12, of a file that is not too long and has a whole header
 --   Accepted file              neither test fires; then:
 --   whole                      the header is whole
 --   small-order, small-outer, small-inner    the order and the counts are at most 64
@@ -13,13 +14,13 @@
 -- Assumes nothing.
 use Prim.Native.Nat.{ℕ, _+_, _*_, _<_, _≤_}
 use native.Mathlib.Omega.{arith}
-use borrow.Author.Tests.{le-leb, ltb-false, ne-eqb}
+use borrow.Author.Tests.{le-leb, le-ltb, ltb-false, ne-eqb}
 use lib.Dec.{eqb, ltb}
 use lib.ListN.{length, take, length-append}
 use lib.Seq.{length-take-le, take-at}
 use mathlib.Core.Bool.{false, _||_}
 use mathlib.Core.List.{List, _++_}
-use mathlib.Core.Path.{_≡_, ap, _∙_}
+use mathlib.Core.Path.{_≡_, sym, ap, _∙_}
 use Rattle.algebra.specs.Lists.{length-tabulate}
 use Rattle.buffer.specs.Written.{sets-whole}
 use Rattle.definition.specs.Job.{cutShort, field, headerBytes, listAt, misplaced, mostBytes, mostPlaces, order, tooLarge, wordOf}
@@ -69,6 +70,11 @@ module _ {file : List ℕ} {k count : ℕ} (list : List ℕ) (stated : Stated fi
         first = take-at part rest count size ∙ same ∙ rw (stated-length, counted, offset);
       }
 
+pub header-large : (file : List ℕ) → length file ≤ 4096 → 28 ≤ length file
+    → tooLarge file ≡ (ltb 64 (order file) || ltb 64 (field file 3) || ltb 64 (field file 5))
+unfolding headerBytes mostBytes mostPlaces tooLarge
+header-large file short whole = rw (le-ltb 4096 (length file) short, le-leb 28 (length file) whole)
+
 pub record Accepted (file : List ℕ) : Type 0 where
   pub large : tooLarge file ≡ false
   pub short : cutShort file ≡ false
@@ -86,9 +92,10 @@ module _ {file : List ℕ} (accepted : Accepted file) where
   whole = ltb-false (length file) 28 (header-lists .0 .0)
 
   stated : ((order file ≤ 64) × (field file 3 ≤ 64)) × (field file 5 ≤ 64)
-  unfolding headerBytes mostPlaces tooLarge
+  unfolding mostBytes tooLarge
   stated =
-      let header = rw (le-leb 28 (length file) whole) at (either-false (ltb mostBytes (length file)) _ (accepted .large) .1) in
+      let short = ltb-false 4096 (length file) (either-false (ltb mostBytes (length file)) _ (accepted .large) .0) in
+      let header = sym (header-large file short whole) ∙ accepted .large in
       let (first, inner) = either-false (ltb 64 (order file) || ltb 64 (field file 3)) (ltb 64 (field file 5)) header in
       let (stated-order, outer) = either-false (ltb 64 (order file)) (ltb 64 (field file 3)) first in
       ((ltb-false 64 _ stated-order, ltb-false 64 _ outer), ltb-false 64 _ inner)

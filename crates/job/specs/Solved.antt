@@ -3,8 +3,8 @@
 --   Result             an accepted job: its order, its weight and its composition
 --   Solution           the number of a file, and where it is 0 the result in the first places of a list
 --   solution-large, solution-short, solution-composed   the three ways to it
---   Printable, Printed the answers that rendering prints into 731 bytes, and what it leaves
---   printed            it prints them
+--   Printable          the answers that rendering prints into 731 bytes
+--   printed            it accepts them
 --   solution-printable, solution-printed   the solution of a job is one of them, and its printed form is the answer to the file
 --   answer-within      the answer lies in the text
 -- Assumes nothing.
@@ -16,7 +16,7 @@ use lib.Seq.{length-take-le, take-at}
 use mathlib.Core.Bool.{true, false}
 use mathlib.Core.List.{List, _++_}
 use mathlib.Core.Path.{_≡_, refl, sym, ap, _∙_}
-use Rattle.definition.specs.Answer.{overwritten}
+use Rattle.definition.specs.Answer.{answered, kept, overwritten}
 use Rattle.definition.specs.Calls.{Job, Render}
 use Rattle.definition.specs.Job.{cutShort, field, inner, jobRefusal, jobText, modulus, order, outer, route, tooLarge}
 use Rattle.definition.specs.Refusal.{badOrder, first, limit, notPlaces, renderRefusal, test}
@@ -81,10 +81,6 @@ pub record Printable (number n : ℕ) (l : List ℕ) : Type 0 where
   pub places : length l ≡ n
   pub positive : number ≡ 0 → 0 < n
 
-pub record Printed (answer text text′ : List ℕ) (count : ℕ) : Type 0 where
-  pub counts : count ≡ length answer
-  pub writes : text′ ≡ overwritten answer text
-
 length-rendered : (number n weight′ : ℕ) (l : List ℕ) → n < 100 → number < 2 ^ 32 → weight′ < 2 ^ 64 → length l ≤ 64
     → ((i : ℕ) → i < length l → getD l i 0 < 2 ^ 32) → length (rendered number n weight′ l) ≤ 731
 length-rendered zero n weight′ l order word long few below = accepted-length n weight′ l order long few below
@@ -108,16 +104,13 @@ module _ {number n : ℕ} {l : List ℕ} (printable : Printable number n l) wher
 
   pub printed : {weight′ : ℕ} {text text′ : List ℕ} {number′ count : ℕ} → number < 2 ^ 32 → weight′ < 2 ^ 64
       → ((i : ℕ) → getD l i 0 < 2 ^ 32) → length text ≡ 731 → Render number n weight′ l text text′ number′ count
-      → Printed (rendered number n weight′ l) text text′ count
+      → Render number n weight′ l text text′ 0 count
   printed {weight′} {text} {text′} {number′} {count} word long below size r =
       let few : length l ≤ 64 = omega (arith, printable .small, printable .places) in
       let order : n < 100 = omega (arith, printable .small) in
       let fits = length-rendered number n weight′ l order word long few (λ i inside. below i) in
       let none : number′ ≡ 0 = r .refusal ∙ not-refused _ (length text) (rw size fits) in
-      record {
-        counts = r .counts ∙ answered-accepted _ none;
-        writes = r .writes ∙ kept-accepted _ _ none;
-      }
+      rw none at r
 
 module _ {file output : List ℕ} {number n weight′ : ℕ} (solution : Solution file output number n weight′) where
   same-text : rendered number n weight′ (take n output) ≡ jobText file
@@ -139,11 +132,11 @@ module _ {file output : List ℕ} {number n weight′ : ℕ} (solution : Solutio
     positive = λ e. solution .result e .positive;
   }
 
-  pub solution-printed : {text text′ : List ℕ} {count : ℕ} → Printed (rendered number n weight′ (take n output)) text text′ count
-      → Job file text text′ count
-  solution-printed {text} p = record {
-    counts = p .counts ∙ ap length same-text;
-    writes = p .writes ∙ ap (λ t. overwritten t text) same-text;
+  pub solution-printed : {text text′ : List ℕ} {count : ℕ} → Render number n weight′ (take n output) text text′ 0 count → Job file text text′ count
+  unfolding answered kept
+  solution-printed {text} r = record {
+    counts = r .counts ∙ ap length same-text;
+    writes = r .writes ∙ ap (λ t. overwritten t text) same-text;
   }
 
 pub answer-within : {file text text′ : List ℕ} {count : ℕ} → Job file text text′ count → count ≤ length text′

@@ -4,12 +4,11 @@ ghost use mathlib.Core.Bool.{false};
 ghost use mathlib.Core.Path.{_≡_};
 ghost use Prim.Native.Nat.{_+_, _*_, _<_, _≤_};
 ghost use lib.ListN.{length};
-ghost use Rattle.definition.specs.Calls.{Job};
+ghost use Rattle.definition.specs.Calls.{Job, Render};
 ghost use Rattle.definition.specs.Job.{cutShort, field, listAt, misplaced, order, tooLarge, word};
-ghost use Rattle.definition.specs.Text.{rendered};
 ghost use Rattle.job.specs.File.{Accepted, Front, Stated};
 ghost use Rattle.job.specs.Run.{Composition, Lists};
-ghost use Rattle.job.specs.Solved.{Printable, Printed, Solution};
+ghost use Rattle.job.specs.Solved.{Printable, Solution};
 
 // The bytes of the header, and of the longest file.
 const HEADER: usize = 28;
@@ -201,7 +200,7 @@ fn solve(file: &[u8], output: &mut [u32]) -> Solved
 // The printed form of an answer of at most 64 coefficients, from place 0 of `text`; the count of its bytes.
 fn print(number: u32, n: usize, weight: u64, list: &[u32], text: &mut [u8; LONGEST]) -> usize
     requires { ⌜ Printable number n (now list) ⌝ }
-    ensures { λ r. ⌜ Printed (rendered number n weight (now (list .entry))) (now (text .entry)) (now (text .exit)) r ⌝ }
+    ensures { λ r. ⌜ Render number n weight (now (list .entry)) (now (text .entry)) (now (text .exit)) 0 r ⌝ }
 {
     let answer = render::render(number, n, weight, list, text);
     answer.count

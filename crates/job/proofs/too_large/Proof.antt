@@ -3,8 +3,9 @@ use borrow.Author.Needs.{needs}
 use native.Mathlib.Omega.{arith}
 use Prim.Native.Nat.{_<_}
 use lib.ListN.{length}
-use borrow.Author.Tests.{le-leb, le-ltb, lt-leb, lt-ltb}
-use Rattle.definition.specs.Job.{headerBytes, mostBytes, mostPlaces, order, tooLarge}
+use borrow.Author.Tests.{le-ltb, lt-leb, lt-ltb}
+use Rattle.definition.specs.Job.{headerBytes, mostBytes, order, tooLarge}
+use Rattle.job.specs.File.{header-large}
 use Rattle.job.proofs.too_large.Statement.{statement}
 use Rattle.job.proofs.too_large.Tie as tie
 
@@ -22,22 +23,21 @@ field-requires : tie.Need-field-requires
 field-requires c κs = search needs
 
 returns-3 : tie.Need-returns-3
-unfolding headerBytes mostBytes mostPlaces order tooLarge
+unfolding order
 returns-3 c =
     let whole = c .before .before in
-    rw (le-ltb 4096 _ (whole .before .if1 .left), le-leb 28 _ (whole .if2 .left), ← c .before .field .ensures, lt-ltb 64 _ (c .if3 .taken))
+    rw (header-large _ (whole .before .if1 .left) (whole .if2 .left), ← c .before .field .ensures, lt-ltb 64 _ (c .if3 .taken))
 
 field-requires-2 : tie.Need-field-requires-2
 field-requires-2 c κs = search needs
 
 returns-4 : tie.Need-returns-4
-unfolding headerBytes mostBytes mostPlaces order tooLarge
+unfolding order
 returns-4 c =
     let first = c .before .before in
     let whole = first .before .before in
     rw (
-      le-ltb 4096 _ (whole .before .if1 .left),
-      le-leb 28 _ (whole .if2 .left),
+      header-large _ (whole .before .if1 .left) (whole .if2 .left),
       ← first .before .field .ensures,
       le-ltb 64 _ (first .if3 .left),
       ← c .before .field2 .ensures,
@@ -48,14 +48,13 @@ field-requires-3 : tie.Need-field-requires-3
 field-requires-3 c κs = search needs
 
 returns-5 : tie.Need-returns-5
-unfolding headerBytes mostBytes mostPlaces order tooLarge
+unfolding order
 returns-5 c =
     let second = c .before in
     let first = second .before .before in
     let whole = first .before .before in
     rw (
-      le-ltb 4096 _ (whole .before .if1 .left),
-      le-leb 28 _ (whole .if2 .left),
+      header-large _ (whole .before .if1 .left) (whole .if2 .left),
       ← first .before .field .ensures,
       le-ltb 64 _ (first .if3 .left),
       ← second .before .field2 .ensures,

@@ -1,0 +1,87 @@
+-- What a call promises leaves nothing free: any two answers to one input that both keep the promise are the same answer. So 01's sentence holds,
+-- that the end content of every buffer is determined for every input, and a promise that says less is refused here. Assumes nothing.
+--
+--   compose-determined, reverse-determined, open-determined, cycle-determined, table-determined, render-determined, job-determined
+use Prim.Native.Nat.{ℕ, zero, suc}
+use mathlib.Core.List.{List}
+use mathlib.Core.Path.{_≡_, refl, sym, _∙_}
+use native.Mathlib.Omega.{arith}
+use Rattle.definition.specs.Calls.{Compose, Cycle, Job, Open, Render, Reverse, Table}
+
+pub compose-determined : {route p n number₁ number₂ weight₁ weight₂ : ℕ} {f g out out₁ out₂ work work₁ work₂ : List ℕ}
+    → Compose route p n f g out out₁ work work₁ number₁ weight₁
+    → Compose route p n f g out out₂ work work₂ number₂ weight₂
+    → (number₁ ≡ number₂) × ((weight₁ ≡ weight₂) × ((out₁ ≡ out₂) × (work₁ ≡ work₂)))
+compose-determined a b =
+    let e = a .refusal ∙ sym (b .refusal) in
+    (e, (a .weighs ∙ rw e (sym (b .weighs)), (a .output ∙ rw e (sym (b .output)), a .clears ∙ rw e (sym (b .clears)))))
+
+pub reverse-determined : {p n number₁ number₂ weight₁ weight₂ : ℕ} {g out out₁ out₂ work work₁ work₂ : List ℕ}
+    → Reverse p n g out out₁ work work₁ number₁ weight₁
+    → Reverse p n g out out₂ work work₂ number₂ weight₂
+    → (number₁ ≡ number₂) × ((weight₁ ≡ weight₂) × ((out₁ ≡ out₂) × (work₁ ≡ work₂)))
+reverse-determined {number₁ = number₁} {number₂ = number₂} {out₁ = out₁} {out₂ = out₂} a b =
+    (e, (a .weighs ∙ sym (b .weighs), (series number₁ refl, a .clears ∙ rw e (sym (b .clears)))))
+  where
+    e : number₁ ≡ number₂
+    e = a .refusal ∙ sym (b .refusal)
+
+    series : (r : ℕ) → number₁ ≡ r → out₁ ≡ out₂
+    series zero accepted = b .only (sym e ∙ accepted) out₁ (a .reverses accepted)
+    series (suc r) refused = a .refused (λ z. omega arith) ∙ sym (b .refused (λ z. omega (arith, e)))
+
+pub open-determined : {p n number₁ number₂ weight₁ weight₂ p₁ p₂ n₁ n₂ done₁ done₂ : ℕ} {s s₁ s₂ : List ℕ}
+    → Open p n s s₁ number₁ weight₁ p₁ n₁ done₁
+    → Open p n s s₂ number₂ weight₂ p₂ n₂ done₂
+    → (number₁ ≡ number₂) × ((weight₁ ≡ weight₂) × ((p₁ ≡ p₂) × ((n₁ ≡ n₂) × ((done₁ ≡ done₂) × (s₁ ≡ s₂)))))
+open-determined a b =
+    let e = a .refusal ∙ sym (b .refusal) in (
+      e,
+      (
+        a .weighs ∙ sym (b .weighs),
+        (
+          a .modulus ∙ rw e (sym (b .modulus)),
+          (
+            a .order ∙ rw e (sym (b .order)),
+            (a .none-done ∙ sym (b .none-done), a .running ∙ rw e (sym (b .running))),
+          ),
+        ),
+      ),
+    )
+
+pub cycle-determined : {route p n done number₁ number₂ weight₁ weight₂ p₁ p₂ n₁ n₂ done₁ done₂ : ℕ} {c s s₁ s₂ work work₁ work₂ : List ℕ}
+    → Cycle route p n done c s s₁ work work₁ number₁ weight₁ p₁ n₁ done₁
+    → Cycle route p n done c s s₂ work work₂ number₂ weight₂ p₂ n₂ done₂
+    → (number₁ ≡ number₂) × ((weight₁ ≡ weight₂) × ((p₁ ≡ p₂) × ((n₁ ≡ n₂) × ((done₁ ≡ done₂) × ((s₁ ≡ s₂) × (work₁ ≡ work₂))))))
+cycle-determined a b =
+    let e = a .refusal ∙ sym (b .refusal) in (
+      e,
+      (
+        a .weighs ∙ rw e (sym (b .weighs)),
+        (
+          a .modulus ∙ sym (b .modulus),
+          (
+            a .order ∙ sym (b .order),
+            (a .counts ∙ rw e (sym (b .counts)), (a .running ∙ rw e (sym (b .running)), a .clears ∙ rw e (sym (b .clears)))),
+          ),
+        ),
+      ),
+    )
+
+pub table-determined : {index number₁ number₂ prime₁ prime₂ : ℕ} → Table index number₁ prime₁ → Table index number₂ prime₂
+    → (number₁ ≡ number₂) × (prime₁ ≡ prime₂)
+table-determined a b =
+    let e = a .refusal ∙ sym (b .refusal) in
+    (e, a .entry ∙ rw e (sym (b .entry)))
+
+pub render-determined : {number n weight number₁ number₂ count₁ count₂ : ℕ} {l text text₁ text₂ : List ℕ}
+    → Render number n weight l text text₁ number₁ count₁
+    → Render number n weight l text text₂ number₂ count₂
+    → (number₁ ≡ number₂) × ((count₁ ≡ count₂) × (text₁ ≡ text₂))
+render-determined a b =
+    let e = a .refusal ∙ sym (b .refusal) in
+    (e, (a .counts ∙ rw e (sym (b .counts)), a .writes ∙ rw e (sym (b .writes))))
+
+pub job-determined : {count₁ count₂ : ℕ} {file text text₁ text₂ : List ℕ} → Job file text text₁ count₁ → Job file text text₂ count₂
+    → (count₁ ≡ count₂) × (text₁ ≡ text₂)
+job-determined a b = (a .counts ∙ sym (b .counts), a .writes ∙ sym (b .writes))
