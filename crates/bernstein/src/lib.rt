@@ -2,6 +2,7 @@
 //
 // A level works on the places of its slice: g at 0, f at n, the value at n + m, the next part's value at 2n + m. The rest, from 3n + m on, is lent to
 // the next level, which finds h and a part of f there.
+use product::Weight;
 ghost use mathlib.Core.Path.{_≡_};
 ghost use Prim.Native.Nat.{_+_, _-_, _<_, _≤_, _^_, min};
 ghost use lib.ListN.{length};
@@ -34,7 +35,7 @@ fn top_part(p: u32, m: usize) -> usize
 // Writes part j of the m places from a on, from place t on. Gives the count of its places.
 fn part(p: usize, j: usize, w: &mut [u32], a: usize, m: usize, t: usize) -> usize
     requires { ⌜ (0 < p) × (j < m) × (m + p < 2 ^ 64) × Apart (now w) a m t m ⌝ }
-    ensures { λ r. ⌜ Parted p j a m t (now (w .entry)) (now (w .exit)) r ⌝ }
+    ensures { λ r. ⌜ Parted p j a m t (now (w .entry)) (now (w .exit)) (r .places) ⌝ }
 {
     let count = rounded_up(m - j, p);
     let mut i = 0;
@@ -103,9 +104,9 @@ fn prepare(p: u32, n: usize, m: usize, w: &mut [u32])
 }
 
 // Joins the next part's value to the value: it becomes the next one + the value × g, cut to n places.
-fn join(p: u32, n: usize, m: usize, w: &mut [u32]) -> u64
+fn join(p: u32, n: usize, m: usize, w: &mut [u32]) -> Weight
     requires { ⌜ Room p n m (now w) ⌝ }
-    ensures { λ r. ⌜ Joined p n m (now (w .entry)) (now (w .exit)) r ⌝ }
+    ensures { λ r. ⌜ Joined p n m (now (w .entry)) (now (w .exit)) (r .places) ⌝ }
 {
     let value = n + m;
     let next = value + n;
@@ -115,9 +116,9 @@ fn join(p: u32, n: usize, m: usize, w: &mut [u32]) -> u64
 }
 
 // The value of part j at order ⌈n/p⌉, with x^p put for y, becomes the next part's value.
-fn part_value(p: u32, n: usize, m: usize, j: usize, w: &mut [u32]) -> u64
+fn part_value(p: u32, n: usize, m: usize, j: usize, w: &mut [u32]) -> Weight
     requires { ⌜ PartReady p n m j (now w) ⌝ }
-    ensures { λ r. ⌜ PartValue p n m j (now (w .entry)) (now (w .exit)) r ⌝ }
+    ensures { λ r. ⌜ PartValue p n m j (now (w .entry)) (now (w .exit)) (r .places) ⌝ }
 {
     let next = n + m + n;
     let rest = next + n;
@@ -131,9 +132,9 @@ fn part_value(p: u32, n: usize, m: usize, j: usize, w: &mut [u32]) -> u64
 }
 
 // The parts from the top one down, joined by Horner's rule in g.
-fn parts(p: u32, n: usize, m: usize, w: &mut [u32]) -> u64
+fn parts(p: u32, n: usize, m: usize, w: &mut [u32]) -> Weight
     requires { ⌜ Room p n m (now w) × (1 < m) ⌝ }
-    ensures { λ r. ⌜ Level p n m (now (w .entry)) (now (w .exit)) r ⌝ }
+    ensures { λ r. ⌜ Level p n m (now (w .entry)) (now (w .exit)) (r .places) ⌝ }
 {
     let value = n + m;
     prepare(p, n, m, w);
@@ -142,29 +143,29 @@ fn parts(p: u32, n: usize, m: usize, w: &mut [u32]) -> u64
     buffer::move_down(w, value + n, value, n);
     while 0 < j {
         j -= 1;
-        weight += part_value(p, n, m, j, w);
-        weight += join(p, n, m, w);
+        weight = weight.plus(part_value(p, n, m, j, w));
+        weight = weight.plus(join(p, n, m, w));
     }
     weight
 }
 
 // f(g) modulo x^n and p, where g and f are the first n and the next m places: written behind them.
-fn level(p: u32, n: usize, m: usize, w: &mut [u32]) -> u64
+fn level(p: u32, n: usize, m: usize, w: &mut [u32]) -> Weight
     requires { ⌜ Room p n m (now w) ⌝ }
-    ensures { λ r. ⌜ Level p n m (now (w .entry)) (now (w .exit)) r ⌝ }
+    ensures { λ r. ⌜ Level p n m (now (w .entry)) (now (w .exit)) (r .places) ⌝ }
 {
     if m <= 1 {
         constant(p, n, m, w);
-        return 0;
+        return Weight::none();
     }
     parts(p, n, m, w)
 }
 
 // Route 3: f(g) modulo x^n, for a prime p, at place 0 of w.
-pub fn bernstein(p: u32, n: usize, f: &[u32], g: &[u32], w: &mut [u32]) -> u64
+pub fn bernstein(p: u32, n: usize, f: &[u32], g: &[u32], w: &mut [u32]) -> Weight
     requires { ⌜ Lent p n (length (now f)) (length (now w)) × Prime p ⌝ }
     ensures { λ r. ⌜ Route p n (now (f .entry)) (now (g .entry)) (bernsteinWeight p n (length (now (f .entry))))
-        (now (w .entry)) (now (w .exit)) r ⌝ }
+        (now (w .entry)) (now (w .exit)) (r .places) ⌝ }
 {
     let m = f.len();
     route::put(g, n, w, 0);

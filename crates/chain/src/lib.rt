@@ -90,7 +90,7 @@ impl Chain {
         self.done += 1;
         let answer = Answer {
             number: 0,
-            weight: weight,
+            weight: weight.value(),
         };
         Next {
             chain: self,

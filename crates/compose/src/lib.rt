@@ -1,4 +1,5 @@
 // The call compose: f(g) modulo x^n by the route named, or a refusal.
+use product::Weight;
 use refusal::Answer;
 ghost use lib.ListN.{length};
 ghost use Rattle.definition.specs.Calls.{Compose};
@@ -7,10 +8,10 @@ ghost use Rattle.definition.specs.Weight.{weight};
 ghost use Rattle.route.specs.Contract.{Lent, Route};
 
 // The route of this number: f(g) modulo x^n, at place 0 of w.
-pub fn run(route: u32, p: u32, n: usize, f: &[u32], g: &[u32], w: &mut [u32]) -> u64
+pub fn run(route: u32, p: u32, n: usize, f: &[u32], g: &[u32], w: &mut [u32]) -> Weight
     requires { ⌜ Lent p n (length (now f)) (length (now w)) × Prime p ⌝ }
     ensures { λ r. ⌜ Route p n (now (f .entry)) (now (g .entry)) (weight route p n (length (now (f .entry))))
-        (now (w .entry)) (now (w .exit)) r ⌝ }
+        (now (w .entry)) (now (w .exit)) (r .places) ⌝ }
 {
     if route == 1 {
         return horner::horner(p, n, f, g, w);
@@ -49,6 +50,6 @@ pub fn compose(
     route::finish(work, out, places);
     Answer {
         number: 0,
-        weight: weight,
+        weight: weight.value(),
     }
 }

@@ -2,6 +2,7 @@
 use crate::division;
 use crate::rows;
 use product::Rows;
+use product::Weight;
 ghost use mathlib.Core.Path.{_≡_};
 ghost use Prim.Native.Nat.{_<_, _≤_};
 ghost use Rattle.definition.specs.Weight.{degreeBound};
@@ -76,9 +77,9 @@ fn arrange(r: usize, q: usize, d: usize, m: usize) -> Layout
 }
 
 // The denominator of the next level, at the start of the rest: the even part of Q(x, y) Q(-x, y).
-fn graeffe(p: u32, r: usize, w: &mut [u32], s: Layout) -> u64
+fn graeffe(p: u32, r: usize, w: &mut [u32], s: Layout) -> Weight
     requires { ⌜ Parts p r s (now w) ⌝ }
-    ensures { λ q. ⌜ Graeffe p r s (now (w .entry)) (now (w .exit)) q ⌝ }
+    ensures { λ q. ⌜ Graeffe p r s (now (w .entry)) (now (w .exit)) (q .places) ⌝ }
 {
     let b = s.opposite;
     let x = s.product;
@@ -93,9 +94,9 @@ fn graeffe(p: u32, r: usize, w: &mut [u32], s: Layout) -> u64
 }
 
 // The result: U(x^2, y) Q(-x, y), for the result U of the next level.
-fn expand(p: u32, r: usize, w: &mut [u32], s: Layout) -> u64
+fn expand(p: u32, r: usize, w: &mut [u32], s: Layout) -> Weight
     requires { ⌜ Parts p r s (now w) ⌝ }
-    ensures { λ q. ⌜ Expanded p r s (now (w .entry)) (now (w .exit)) q ⌝ }
+    ensures { λ q. ⌜ Expanded p r s (now (w .entry)) (now (w .exit)) (q .places) ⌝ }
 {
     let u = s.below;
     let factor = s.opposite;
@@ -129,18 +130,26 @@ fn last(p: u32, q: usize, d: usize, f: &[u32], w: &mut [u32])
 }
 
 // Leaves the powers of y from d to m - 1 of P / Q, below x^r, behind the Q in the first q + 1 rows of r places.
-pub fn level(p: u32, levels: usize, r: usize, q: usize, d: usize, f: &[u32], w: &mut [u32]) -> u64
+pub fn level(
+    p: u32,
+    levels: usize,
+    r: usize,
+    q: usize,
+    d: usize,
+    f: &[u32],
+    w: &mut [u32],
+) -> Weight
     requires { ⌜ LevelLent p levels r q d (now f) (now w) ⌝ }
-    ensures { λ s. ⌜ Levelled p levels r q d (now (f .entry)) (now (w .entry)) (now (w .exit)) s ⌝ }
+    ensures { λ s. ⌜ Levelled p levels r q d (now (f .entry)) (now (w .entry)) (now (w .exit)) (s .places) ⌝ }
 {
     if levels == 0 {
         last(p, q, d, f, w);
-        return 0;
+        return Weight::none();
     }
     let s = arrange(r, q, d, f.len());
     let rest = s.rest;
     let down = graeffe(p, r, w, s);
     let below = level(p, levels - 1, s.half, s.next, s.low, f, &mut w[rest..]);
     let up = expand(p, r, w, s);
-    down + below + up
+    down.plus(below).plus(up)
 }

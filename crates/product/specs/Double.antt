@@ -5,6 +5,7 @@
 --   operands-row          one row of each factor, for `multiply_add`
 --   operands-target       one row of the target, for `multiply_row`
 --   productOf p r a b w   the product modulo p of the polynomials that stand in w at a and at b
+--   MultipliedRow         the contract of `multiply_row`
 --   MultipliedRows        the contract of `multiply_rows`
 --   rowAt                 row j of a b modulo p, of which the first l terms are summed
 --   rowSum                w with such a row of its product written at t
@@ -40,6 +41,10 @@ pub record RowOperands (p r : ℕ) (a b : Rows) (t n : ℕ) (w : List ℕ) : Typ
 
 abbrev pub productOf : ℕ → ℕ → Rows → Rows → List ℕ → ℕ → ℕ → ℕ
 productOf p r a b w = cutProduct2At p (held r w a) (held r w b)
+
+pub record MultipliedRow (p r : ℕ) (a b : Rows) (j t : ℕ) (before after : List ℕ) (result : ℕ) : Type 0 where
+  pub written : after ≡ sets before t (tabulate r (productOf p r a b before j))
+  pub places : result ≡ r
 
 pub record MultipliedRows (p r : ℕ) (a b : Rows) (low : ℕ) (t : Rows) (before after : List ℕ) (result : ℕ) : Type 0 where
   pub written : after ≡ sets before (t .at) (plane r (t .count) (window low (productOf p r a b before)))

@@ -1,5 +1,6 @@
 // Route 2, ranged Horner (document 004, Algorithm 2): blocks of the outer list by Horner, joined in pairs with powers of the inner list.
 // The inner list stands at place 0 of the work buffer, its powers after it. The joins go depth first, so that few results are kept.
+use product::Weight;
 ghost use mathlib.Core.Path.{_≡_};
 ghost use lib.ListN.{length};
 ghost use Prim.Native.Nat.{_+_, _*_, _^_, _<_, _≤_, min};
@@ -15,38 +16,38 @@ ghost use Rattle.ranged.specs.Kept.{BasePower, PowerOperands, Powers, Sq
 const BLOCK_LENGTH: usize = 4;
 
 // The n places from n on become G^4 modulo p, cut to n places, where G are the first n places. The n places after them are used.
-fn fourth_power(p: u32, n: usize, w: &mut [u32]) -> u64
+fn fourth_power(p: u32, n: usize, w: &mut [u32]) -> Weight
     requires { ⌜ PowerOperands p n 1 (now w) ⌝ }
-    ensures { λ r. ⌜ BasePower p n blockLength (now (w .entry)) (now (w .exit)) r ⌝ }
+    ensures { λ r. ⌜ BasePower p n blockLength (now (w .entry)) (now (w .exit)) (r .places) ⌝ }
 {
     let weight = product::multiply(p, n, w, 0, 0, 2 * n);
-    weight + product::multiply(p, n, w, 2 * n, 2 * n, n)
+    weight.plus(product::multiply(p, n, w, 2 * n, 2 * n, n))
 }
 
 // The power at place n is squared, and the square squared, until there are as many powers as rounds, one after the other.
-fn squares(p: u32, n: usize, rounds: usize, w: &mut [u32]) -> u64
+fn squares(p: u32, n: usize, rounds: usize, w: &mut [u32]) -> Weight
     requires { ⌜ PowerOperands p n rounds (now w) × (0 < rounds) ⌝ }
-    ensures { λ r. ⌜ Squares p n rounds (now (w .entry)) (now (w .exit)) r ⌝ }
+    ensures { λ r. ⌜ Squares p n rounds (now (w .entry)) (now (w .exit)) (r .places) ⌝ }
 {
-    let mut weight: u64 = 0;
+    let mut weight = Weight::none();
     let mut i = 1;
     while i < rounds {
-        weight += product::multiply(p, n, w, i * n, i * n, (i + 1) * n);
+        weight = weight.plus(product::multiply(p, n, w, i * n, i * n, (i + 1) * n));
         i += 1;
     }
     weight
 }
 
 // The powers of the inner list that so many rounds of joins need: none where there is nothing to join.
-fn powers(p: u32, n: usize, rounds: usize, w: &mut [u32]) -> u64
+fn powers(p: u32, n: usize, rounds: usize, w: &mut [u32]) -> Weight
     requires { ⌜ PowerOperands p n rounds (now w) ⌝ }
-    ensures { λ r. ⌜ Powers p n blockLength rounds (now (w .entry)) (now (w .exit)) r ⌝ }
+    ensures { λ r. ⌜ Powers p n blockLength rounds (now (w .entry)) (now (w .exit)) (r .places) ⌝ }
 {
     if rounds == 0 {
-        return 0;
+        return Weight::none();
     }
     let weight = fourth_power(p, n, w);
-    weight + squares(p, n, rounds, w)
+    weight.plus(squares(p, n, rounds, w))
 }
 
 // The number of rounds in which m places, in blocks of b, are joined.
@@ -74,9 +75,9 @@ fn block_place(b: usize, j: usize, m: usize) -> usize
 }
 
 // The n places from t on become f's block j at G modulo p and x^n, by Horner, where G are the first n places. The n places after them are used.
-fn compose_block(p: u32, n: usize, b: usize, f: &[u32], j: usize, w: &mut [u32], t: usize) -> u64
+fn compose_block(p: u32, n: usize, b: usize, f: &[u32], j: usize, w: &mut [u32], t: usize) -> Weight
     requires { ⌜ SpanOperands p n b 0 j t (now f) (now w) ⌝ }
-    ensures { λ r. ⌜ Part p n (block b j (now (f .entry))) 0 t (now (w .entry)) (now (w .exit)) r ⌝ }
+    ensures { λ r. ⌜ Part p n (block b j (now (f .entry))) 0 t (now (w .entry)) (now (w .exit)) (r .places) ⌝ }
 {
     let start = block_place(b, j, f.len());
     let end = block_place(b, j + 1, f.len());
@@ -94,9 +95,9 @@ fn compose_span(
     j: usize,
     w: &mut [u32],
     t: usize,
-) -> u64
+) -> Weight
     requires { ⌜ SpanOperands p n b level j t (now f) (now w) ⌝ }
-    ensures { λ r. ⌜ SpanPart p n b level j t (now (f .entry)) (now (w .entry)) (now (w .exit)) r ⌝ }
+    ensures { λ r. ⌜ SpanPart p n b level j t (now (f .entry)) (now (w .entry)) (now (w .exit)) (r .places) ⌝ }
 {
     if level == 0 {
         return compose_block(p, n, b, f, j, w, t);
@@ -110,20 +111,21 @@ fn compose_span(
     let beside = t + n;
     let odd = compose_span(p, n, b, f, below, next, w, beside);
     let power = level * n;
-    even + odd + product::multiply_add(p, n, w, beside, power, t)
+    even.plus(odd)
+        .plus(product::multiply_add(p, n, w, beside, power, t))
 }
 
 // Route 2: f(g) modulo x^n, at place 0 of w.
-pub fn ranged(p: u32, n: usize, f: &[u32], g: &[u32], w: &mut [u32]) -> u64
+pub fn ranged(p: u32, n: usize, f: &[u32], g: &[u32], w: &mut [u32]) -> Weight
     requires { ⌜ Lent p n (length (now f)) (length (now w)) ⌝ }
     ensures { λ r. ⌜ Route p n (now (f .entry)) (now (g .entry)) (rangedWeight blockLength n (length (now (f .entry))))
-        (now (w .entry)) (now (w .exit)) r ⌝ }
+        (now (w .entry)) (now (w .exit)) (r .places) ⌝ }
 {
     let levels = rounds(f.len(), BLOCK_LENGTH);
     let t = (levels + 1) * n;
     route::put(g, n, w, 0);
     let weight = powers(p, n, levels, w);
-    let sum = weight + compose_span(p, n, BLOCK_LENGTH, f, levels, 0, w, t);
+    let sum = weight.plus(compose_span(p, n, BLOCK_LENGTH, f, levels, 0, w, t));
     buffer::move_down(w, t, 0, n);
     sum
 }

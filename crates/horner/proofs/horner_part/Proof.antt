@@ -13,7 +13,7 @@ use Rattle.horner.proofs.horner_part.Statement.{statement}
 use Rattle.horner.proofs.horner_part.Tie as tie
 
 abbrev Inv-loop : tie.InvT-loop
-Inv-loop p n f w₀ b t i₀ c weight₀ w i weight = Running p n f b t w₀ w i weight
+Inv-loop p n f w₀ b t i₀ c weight₀ w i weight = Running p n f b t w₀ w i (weight .places)
 
 abbrev μ-loop : tie.MeasureT-loop
 μ-loop p n f w₀ b t i₀ c weight₀ w i weight = i
@@ -37,14 +37,14 @@ module _ (c : tie.After-put-constant Inv-loop μ-loop) where
   operands = operands-put (begin .pre) put
 
 abbrev started : tie.At-loop Inv-loop μ-loop → tie.After-put-constant Inv-loop μ-loop
-started c = c .before .before .before
+started c = c .before .before .before .before
 
 -- in a turn a coefficient is left
 left : (c : tie.In-loop Inv-loop μ-loop)
     → (let at = c .before in
     let begin = begin (started at) in
     Running (begin .args .p) (begin .args .n) (begin .args .f .now) (begin .args .b) (begin .args .t) (w₁ (started at)) (at .loop .w)
-    (suc (at .loop .i - 1)) (at .loop .weight))
+    (suc (at .loop .i - 1)) (at .loop .weight .places))
 left c =
     let e : c .before .loop .i ≡ suc (c .before .loop .i - 1) = omega arith in
     rw e at (c .before .loop .inv)
@@ -62,10 +62,13 @@ put-constant-requires : tie.Need-put-constant-requires Inv-loop μ-loop
 put-constant-requires c κs =
     let begin = c .before .before .before .before .before in (begin .pre .positive, omega (arith, begin .pre .inner .target))
 
+none-requires : tie.Need-none-requires Inv-loop μ-loop
+none-requires c κs = search needs
+
 loop-holds : tie.Need-loop-holds Inv-loop μ-loop
 loop-holds c =
-    let put-top = c .before .before in
-    rw (put-top .before .before .before .excess .ensures) (running-first (begin put-top .pre) (put put-top))
+    let put-top = c .before .before .before in
+    rw (put-top .before .before .before .excess .ensures, c .none .ensures) (running-first (begin put-top .pre) (put put-top))
 
 sub-i : tie.Need-sub-i Inv-loop μ-loop
 sub-i c = search needs
@@ -84,8 +87,8 @@ step-requires c κs =
     let at = c .before .before .before in
     (operands (started at) .positive, operands-step (operands (started at)) (at .loop .inv .within .size))
 
-add-weight : tie.Need-add-weight Inv-loop μ-loop
-add-weight c =
+plus-requires : tie.Need-plus-requires Inv-loop μ-loop
+plus-requires c κs =
     let turn = c .before .before .before .before .before in
     omega (arith, running-small (operands (started (turn .before))) (left turn), c .before .before .step .ensures .places)
 
@@ -94,7 +97,7 @@ add-move-down c = search needs
 
 move-down-requires : tie.Need-move-down-requires Inv-loop μ-loop
 move-down-requires c κs =
-    let turn = c .before .before .before in
+    let turn = c .before .before .before .before in
     let at = turn .before .before .before .before in
     (omega arith, omega (arith, operands (started at) .inner .target, at .loop .inv .within .size, turn .step .kept .1 .1 .1 .0))
 
@@ -104,9 +107,12 @@ loop-less c = search needs
 loop-again : tie.Need-loop-again Inv-loop μ-loop
 loop-again c =
     let moved = c .before .before in
-    let turn = moved .before .before .before .before in
+    let summed = moved .before .before in
+    let turn = summed .before .before .before in
     let at = turn .before .before .before .before in
-    running-next (operands (started at)) (turn .step .last .1 .1 .1 .0) (left (turn .before .before .before)) (turn .step .ensures) (moved .move-down .ensures)
+    rw (summed .plus .ensures)
+    (running-next (operands (started at)) (turn .step .last .1 .1 .1 .0) (left (turn .before .before .before)) (turn .step .ensures)
+    (moved .move-down .ensures))
 
 same-length : tie.Need-same-length Inv-loop μ-loop
 same-length c = search needs
@@ -126,13 +132,14 @@ horner-part-spec =
     place-requires
     rem-put-constant
     put-constant-requires
+    none-requires
     loop-holds
     sub-i
     mul-step
     shared-slice-read-step
     add-step
     step-requires
-    add-weight
+    plus-requires
     add-move-down
     move-down-requires
     loop-less

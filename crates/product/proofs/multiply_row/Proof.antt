@@ -108,9 +108,13 @@ same-length c = search needs
 returns : tie.Need-returns Inv-loop μ-loop
 returns c =
     let at = c .before in
-    at .loop .inv .3
-    ∙ rw (zeroed at .clear-part .ensures)
-    (row-last (start at .args .j) (start at .pre .0) (at .loop .l) (omega arith) (at .loop .inv .1))
+    record {
+      written =
+          at .loop .inv .3
+          ∙ rw (zeroed at .clear-part .ensures)
+          (row-last (start at .args .j) (start at .pre .0) (at .loop .l) (omega arith) (at .loop .inv .1));
+      places = search needs;
+    }
 
 pub multiply-row-spec : {M : Type 1} → statement M
 multiply-row-spec =

@@ -59,12 +59,12 @@ loop-again c =
     let at = turn .before .before in (
       search needs,
       search needs,
-      c .before .before .multiply-row .ensures
+      c .before .before .multiply-row .ensures .written
           ∙ rw (at .loop .inv .2) (rows-next (start at .args .low) (start at .pre .0) (at .loop .k) (turn .if1 .taken)),
     )
 
-mul-result : tie.Need-mul-result Inv-loop μ-loop
-mul-result c = search needs
+mul-places : tie.Need-mul-places Inv-loop μ-loop
+mul-places c = search needs
 
 same-length : tie.Need-same-length Inv-loop μ-loop
 same-length c = search needs
@@ -89,6 +89,6 @@ multiply-rows-spec =
     add-k
     loop-less
     loop-again
-    mul-result
+    mul-places
     same-length
     returns)

@@ -26,17 +26,17 @@ multiply-requires-2 c κs =
     let size = c .before .before .before .multiply .kept .0 in
     square-operands (pre .modulus) (pre .order) (record { source = omega arith; target = omega arith; apart = inr (omega arith) })
 
-add-result : tie.Need-add-result
-add-result c = search needs
+plus-requires : tie.Need-plus-requires
+plus-requires c κs = omega (arith, c .before .before .multiply2 .ensures .places, c .before .before .before .before .before .before .multiply .ensures .places)
 
 same-length : tie.Need-same-length
 same-length c = search needs
 
 returns : tie.Need-returns
 returns c =
-    let second = c .before .before in
+    let second = c .before .before .before in
     let first = second .before .before .before .before in
-    fourth-power (first .before .before .before .pre) (first .multiply .ensures) (second .multiply2 .ensures)
+    rw (c .plus .ensures) (fourth-power (first .before .before .before .pre) (first .multiply .ensures) (second .multiply2 .ensures))
 
 pub fourth-power-spec : {M : Type 1} → statement M
 fourth-power-spec =
@@ -47,6 +47,6 @@ fourth-power-spec =
     mul-multiply-2
     mul-multiply-3
     multiply-requires-2
-    add-result
+    plus-requires
     same-length
     returns)

@@ -9,8 +9,11 @@ use Prim.Native.Nat.{_-_}
 use Rattle.ranged.proofs.powers.Statement.{statement}
 use Rattle.ranged.proofs.powers.Tie as tie
 
+none-requires : tie.Need-none-requires
+none-requires c κs = search needs
+
 returns : tie.Need-returns
-returns c = rw (c .if1 .taken) (powers-none _ _ _ _)
+returns c = rw (c .none .ensures, c .before .if1 .taken) (powers-none _ _ _ _)
 
 fourth-power-requires : tie.Need-fourth-power-requires
 fourth-power-requires c κs = first-operands (c .before .before .before .pre) (c .before .if1 .left)
@@ -18,9 +21,9 @@ fourth-power-requires c κs = first-operands (c .before .before .before .pre) (c
 squares-requires : tie.Need-squares-requires
 squares-requires c κs = search needs
 
-add-result : tie.Need-add-result
+plus-requires : tie.Need-plus-requires
 unfolding blockLength powerProducts leadingZeros ones onesIn
-add-result c =
+plus-requires c κs =
     let second = c .before .before in
     let first = second .before .before .before .before in
     let begin = first .before .before .before .before in
@@ -32,11 +35,12 @@ same-length c = search needs
 
 returns-2 : tie.Need-returns-2
 returns-2 c =
-    let second = c .before .before in
+    let second = c .before .before .before in
     let first = second .before .before .before .before in
-    powers-made (omega (arith, first .before .before .if1 .left)) (first .fourth-power .ensures) (second .squares .ensures)
+    rw (c .plus .ensures)
+    (powers-made (omega (arith, first .before .before .if1 .left)) (first .fourth-power .ensures) (second .squares .ensures))
 
 pub powers-spec : {M : Type 1} → statement M
 powers-spec =
     tie.close
-    (tie.spec returns fourth-power-requires squares-requires add-result same-length returns-2)
+    (tie.spec none-requires returns fourth-power-requires squares-requires plus-requires same-length returns-2)

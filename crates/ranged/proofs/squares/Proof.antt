@@ -8,35 +8,38 @@ use Rattle.ranged.proofs.squares.Statement.{statement}
 use Rattle.ranged.proofs.squares.Tie as tie
 
 abbrev Inv-loop : tie.InvT-loop
-Inv-loop p n rounds w₀ weight₀ i₀ w weight i = (0 < i) × (i ≤ rounds) × Squares p n i w₀ w weight
+Inv-loop p n rounds w₀ weight₀ i₀ w weight i = (0 < i) × (i ≤ rounds) × Squares p n i w₀ w (weight .places)
 
 abbrev μ-loop : tie.MeasureT-loop
 μ-loop p n rounds w₀ weight₀ i₀ w weight i = rounds - i
 
+none-requires : tie.Need-none-requires Inv-loop μ-loop
+none-requires c κs = search needs
+
 loop-holds : tie.Need-loop-holds Inv-loop μ-loop
-loop-holds c = (search needs, search needs, squares-first _ _ _)
+loop-holds c = (search needs, search needs, rw (c .none .ensures) (squares-first _ _ _))
 
 mul-multiply : tie.Need-mul-multiply Inv-loop μ-loop
-mul-multiply c = record { fits = omega (arith, place-bound (c .before .before .before .before .pre .0) (c .before .before .loop .i) (omega arith)) }
+mul-multiply c = record { fits = omega (arith, place-bound (c .before .before .before .before .before .pre .0) (c .before .before .loop .i) (omega arith)) }
 
 mul-multiply-2 : tie.Need-mul-multiply-2 Inv-loop μ-loop
-mul-multiply-2 c = record { fits = omega (arith, place-bound (c .before .before .before .before .pre .0) (c .before .before .loop .i) (omega arith)) }
+mul-multiply-2 c = record { fits = omega (arith, place-bound (c .before .before .before .before .before .pre .0) (c .before .before .loop .i) (omega arith)) }
 
 add-multiply : tie.Need-add-multiply Inv-loop μ-loop
 add-multiply c = search needs
 
 mul-multiply-3 : tie.Need-mul-multiply-3 Inv-loop μ-loop
-mul-multiply-3 c = record { fits = omega (arith, place-bound (c .before .before .before .before .pre .0) (c .before .before .loop .i + 1) (omega arith)) }
+mul-multiply-3 c = record { fits = omega (arith, place-bound (c .before .before .before .before .before .pre .0) (c .before .before .loop .i + 1) (omega arith)) }
 
 multiply-requires : tie.Need-multiply-requires Inv-loop μ-loop
 multiply-requires c κs =
     let at = c .before .before in
-    squares-operands (at .before .before .pre .0) (at .loop .inv .2 .within .size) (at .loop .inv .0) (c .before .loop-test .taken)
+    squares-operands (at .before .before .before .pre .0) (at .loop .inv .2 .within .size) (at .loop .inv .0) (c .before .loop-test .taken)
 
-add-weight : tie.Need-add-weight Inv-loop μ-loop
-add-weight c =
+plus-requires : tie.Need-plus-requires Inv-loop μ-loop
+plus-requires c κs =
     let at = c .before .before .before .before .before in
-    omega (arith, place-bound (at .before .before .pre .0) (at .loop .i - 1) (omega arith))
+    omega (arith, place-bound (at .before .before .before .pre .0) (at .loop .i - 1) (omega arith), c .before .before .multiply .ensures .places)
 
 add-i : tie.Need-add-i Inv-loop μ-loop
 add-i c = search needs
@@ -46,11 +49,13 @@ loop-less c = search needs
 
 loop-again : tie.Need-loop-again Inv-loop μ-loop
 loop-again c =
-    let at = c .before .before .before .before .before in (
+    let turn = c .before .before .before in
+    let at = turn .before .before .before in (
       search needs,
       search needs,
-      squares-next (at .before .before .pre .0) (at .loop .inv .0) (c .before .before .before .before .loop-test .taken)
-          (at .loop .inv .2) (c .before .before .multiply .ensures),
+      rw (c .plus .ensures)
+          (squares-next (at .before .before .before .pre .0) (at .loop .inv .0) (turn .before .before .loop-test .taken) (at .loop .inv .2)
+          (turn .multiply .ensures)),
     )
 
 same-length : tie.Need-same-length Inv-loop μ-loop
@@ -58,7 +63,7 @@ same-length c = c .before .loop .inv .2 .within .size
 
 returns : tie.Need-returns Inv-loop μ-loop
 returns c =
-    let all : c .before .loop .i ≡ c .before .before .before .args .rounds = omega arith in
+    let all : c .before .loop .i ≡ c .before .before .before .before .args .rounds = omega arith in
     rw all at (c .before .loop .inv .2)
 
 pub squares-spec : {M : Type 1} → statement M
@@ -67,13 +72,14 @@ squares-spec =
     (tie.spec
     Inv-loop
     μ-loop
+    none-requires
     loop-holds
     mul-multiply
     mul-multiply-2
     add-multiply
     mul-multiply-3
     multiply-requires
-    add-weight
+    plus-requires
     add-i
     loop-less
     loop-again
