@@ -35,7 +35,7 @@ fn top_part(p: u32, m: usize) -> usize
 // Writes part j of the m places from a on, from place t on. Gives the count of its places.
 fn part(p: usize, j: usize, w: &mut [u32], a: usize, m: usize, t: usize) -> usize
     requires { ⌜ (0 < p) × (j < m) × (m + p < 2 ^ 64) × Apart (now w) a m t m ⌝ }
-    ensures { λ r. ⌜ Parted p j a m t (now (w .entry)) (now (w .exit)) (r .places) ⌝ }
+    ensures { λ r. ⌜ Parted p j a m t (now (w .entry)) (now (w .exit)) r ⌝ }
 {
     let count = rounded_up(m - j, p);
     let mut i = 0;

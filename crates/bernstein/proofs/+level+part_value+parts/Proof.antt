@@ -43,13 +43,15 @@ use Rattle.bernstein.proofs.rounded_up.Reads as rounded-up-reads
 use Rattle.bernstein.proofs.spread.Reads as spread-reads
 use Rattle.bernstein.proofs.top_part.Reads as top-part-reads
 use Rattle.buffer.proofs.move_down.Reads as move-down-reads
+use Rattle.product.proofs.Weight.none.Reads as none-reads
+use Rattle.product.proofs.Weight.plus.Reads as plus-reads
 use Rattle.bernstein.proofs.+level+part_value+parts.{statement}
 use Rattle.bernstein.proofs.+level+part_value+parts.Tie.{close}
 
 module _ (t : ℕ) where
   -- what a member asks of those that it calls, and learns from them
   abbrev level-calls : level-lts.Claims
-  level-calls = (constant-reads.Asked, constant-reads.Learnt, parts-below t, parts.Post)
+  level-calls = (constant-reads.Asked, constant-reads.Learnt, none-reads.Asked, none-reads.Learnt, parts-below t, parts.Post)
 
   abbrev part-value-calls : part-value-lts.Claims
   part-value-calls = (
@@ -73,6 +75,8 @@ module _ (t : ℕ) where
     part-value.Post,
     move-down-reads.Asked,
     move-down-reads.Learnt,
+    plus-reads.Asked,
+    plus-reads.Learnt,
     join-reads.Asked,
     join-reads.Learnt,
   )
@@ -80,13 +84,17 @@ module _ (t : ℕ) where
   level-constant-requires : level-lts.Need-constant-requires level-calls (level-at t) level.Post
   level-constant-requires c κs = search needs
 
+  level-none-requires : level-lts.Need-none-requires level-calls (level-at t) level.Post
+  level-none-requires c κs = search needs
+
   level-same-length : level-lts.Need-same-length level-calls (level-at t) level.Post
   level-same-length c = search needs
 
   level-returns : level-lts.Need-returns level-calls (level-at t) level.Post
   level-returns c =
-      let then = c .before .before .before .before in
-      level-constant (then .before .before .pre .1) (then .if1 .taken) (c .before .before .constant .ensures)
+      let written = c .before .before .before in
+      let then = written .before .before in
+      rw (c .none .ensures) (level-constant (then .before .before .pre .1) (then .if1 .taken) (written .constant .ensures))
 
   level-parts-requires : level-lts.Need-parts-requires level-calls (level-at t) level.Post
   level-parts-requires c κs = search needs
@@ -166,7 +174,7 @@ module _ (t : ℕ) where
       part-value-written (start .pre .1) rounded (at .part .ensures) (level .level .ensures) (c .before .before .spread .ensures)
 
   abbrev parts-Inv : parts-lts.InvT-loop
-  parts-Inv p n m w₀ value j₀ weight₀ w j weight = PartsJoined p n m w₀ j w weight
+  parts-Inv p n m w₀ value j₀ weight₀ w j weight = PartsJoined p n m w₀ j w (weight .places)
 
   abbrev parts-μ : parts-lts.MeasureT-loop
   parts-μ p n m w₀ value j₀ weight₀ w j weight = j
@@ -204,7 +212,7 @@ module _ (t : ℕ) where
       let top = value .before .before in
       let args = top .before .before .before .before .before .before .args in
       PartsJoined (args .p) (args .n) (args .m) (args .w .now) (top .top-part .result)
-      (c .before .before .move-down .last .0) (value .part-value .result))
+      (c .before .before .move-down .last .0) (value .part-value .result .places))
   top-joined c =
       let value = c .before .before .before .before .before .before in
       let top = value .before .before in
@@ -224,33 +232,43 @@ module _ (t : ℕ) where
       let inv = at .loop .inv in
       (omega (arith, start .pre .0), prepared-ready (inv .prepared) _ (omega (arith, inv .index)))
 
-  parts-add-weight : parts-lts.Need-add-weight parts-calls (parts-at t) parts.Post parts-Inv parts-μ
-  parts-add-weight c =
+  parts-plus-requires : parts-lts.Need-plus-requires parts-calls (parts-at t) parts.Post parts-Inv parts-μ
+  parts-plus-requires c κs =
       let at = c .before .before .before .before .before in
       let down : suc (at .loop .j - 1) ≡ at .loop .j = omega arith in
       omega (arith, parts-small (at .loop .inv) down, c .before .before .part-value2 .ensures .sum)
 
   parts-join-requires : parts-lts.Need-join-requires parts-calls (parts-at t) parts.Post parts-Inv parts-μ
   parts-join-requires c κs =
-      let part = c .before .before .before in
+      let part = c .before .before .before .before in
       parts-room (part .before .before .before .loop .inv) (part .part-value2 .ensures)
 
-  parts-add-weight-2 : parts-lts.Need-add-weight-2 parts-calls (parts-at t) parts.Post parts-Inv parts-μ
-  parts-add-weight-2 c =
-      let at = c .before .before .before .before .before .before .before .before .before in
+  parts-plus-requires-2 : parts-lts.Need-plus-requires-2 parts-calls (parts-at t) parts.Post parts-Inv parts-μ
+  parts-plus-requires-2 c κs =
+      let summed = c .before .before .before .before in
+      let part = summed .before .before .before in
+      let at = part .before .before .before in
       let down : suc (at .loop .j - 1) ≡ at .loop .j = omega arith in
-      let part = c .before .before .before .before .before .before in
-      omega (arith, parts-small (at .loop .inv) down, part .part-value2 .ensures .sum, c .before .before .join .ensures .places)
+      omega (
+        arith,
+        parts-small (at .loop .inv) down,
+        part .part-value2 .ensures .sum,
+        summed .plus .ensures,
+        c .before .before .join .ensures .places,
+      )
 
   parts-loop-less : parts-lts.Need-loop-less parts-calls (parts-at t) parts.Post parts-Inv parts-μ
   parts-loop-less c = search needs
 
   parts-loop-again : parts-lts.Need-loop-again parts-calls (parts-at t) parts.Post parts-Inv parts-μ
   parts-loop-again c =
-      let at = c .before .before .before .before .before .before .before .before .before in
+      let joined = c .before .before .before in
+      let summed = joined .before .before in
+      let part = summed .before .before .before in
+      let at = part .before .before .before in
       let down : suc (at .loop .j - 1) ≡ at .loop .j = omega arith in
-      let part = c .before .before .before .before .before .before in
-      parts-turn (at .loop .inv) down (part .part-value2 .ensures) (c .before .before .join .ensures)
+      rw (c .plus2 .ensures, summed .plus .ensures)
+      (parts-turn (at .loop .inv) down (part .part-value2 .ensures) (joined .join .ensures))
 
   parts-same-length : parts-lts.Need-same-length parts-calls (parts-at t) parts.Post parts-Inv parts-μ
   parts-same-length c = search needs
@@ -262,7 +280,7 @@ pub +level+part-value+parts-spec : {M : Type 1} → statement M
 +level+part-value+parts-spec =
     close μ-level μ-part-value μ-parts
     (λ t. level-lts.spec (level-calls t) (level-at t) level.Post
-    (level-constant-requires t) (level-same-length t) (level-returns t)
+    (level-constant-requires t) (level-none-requires t) (level-same-length t) (level-returns t)
     (level-parts-requires t) (level-same-length-2 t) (level-returns-2 t))
     (λ t. part-value-lts.spec (part-value-calls t) (part-value-at t) part-value.Post
     (part-value-add-next t) (part-value-add-next-2 t) (part-value-add-rest t)
@@ -274,6 +292,6 @@ pub +level+part-value+parts-spec : {M : Type 1} → statement M
     (parts-add-value t) (parts-prepare-requires t) (parts-top-part-requires t)
     (parts-part-value-requires t) (parts-add-move-down t) (parts-move-down-requires t)
     (parts-loop-holds t) (parts-sub-j t) (parts-part-value-requires-2 t)
-    (parts-add-weight t) (parts-join-requires t) (parts-add-weight-2 t)
+    (parts-plus-requires t) (parts-join-requires t) (parts-plus-requires-2 t)
     (parts-loop-less t) (parts-loop-again t) (parts-same-length t)
     (parts-returns t))

@@ -15,15 +15,19 @@ put-constant-requires c κs =
     let lent = c .before .before .before .before .before .pre in
     (lent .positive, omega (arith, lent-places lent))
 
+none-requires : tie.Need-none-requires
+none-requires c κs = search needs
+
 same-length : tie.Need-same-length
 same-length c = search needs
 
 returns : tie.Need-returns
 returns c =
-    let put = c .before .before in
+    let put = c .before .before .before in
     let test = put .before .before in
     let start = test .before .before .before .before in
-    none-done (start .args .f .now) (start .args .g .now) (start .args .w .now) (start .pre) (test .if1 .taken) (put .put-constant .ensures)
+    rw (c .none .ensures)
+    (none-done (start .args .f .now) (start .args .g .now) (start .args .w .now) (start .pre) (test .if1 .taken) (put .put-constant .ensures))
 
 work-places-requires : tie.Need-work-places-requires
 work-places-requires c κs = search needs
@@ -102,6 +106,7 @@ kinoshita-li-spec =
     tie.close
     (tie.spec
     put-constant-requires
+    none-requires
     same-length
     returns
     work-places-requires

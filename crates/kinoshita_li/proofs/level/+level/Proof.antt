@@ -15,6 +15,8 @@ use Rattle.kinoshita_li.proofs.level.arrange.Reads as arrange-reads
 use Rattle.kinoshita_li.proofs.level.expand.Reads as expand-reads
 use Rattle.kinoshita_li.proofs.level.graeffe.Reads as graeffe-reads
 use Rattle.kinoshita_li.proofs.level.last.Reads as last-reads
+use Rattle.product.proofs.Weight.none.Reads as none-reads
+use Rattle.product.proofs.Weight.plus.Reads as plus-reads
 use Rattle.kinoshita_li.proofs.level.+level.{statement}
 use Rattle.kinoshita_li.proofs.level.+level.Tie.{close}
 
@@ -31,6 +33,8 @@ abbrev claims : ℕ → level-lts.Claims
 claims t = (
   last-reads.Asked,
   last-reads.Learnt,
+  none-reads.Asked,
+  none-reads.Learnt,
   arrange-reads.Asked,
   arrange-reads.Learnt,
   graeffe-reads.Asked,
@@ -39,6 +43,8 @@ claims t = (
   level.Post,
   expand-reads.Asked,
   expand-reads.Learnt,
+  plus-reads.Asked,
+  plus-reads.Learnt,
 )
 
 module _ (t : ℕ) where
@@ -47,14 +53,17 @@ module _ (t : ℕ) where
       let lent = c .before .before .before .before .pre .1 in
       rw (c .before .if1 .taken, order-1 lent (c .before .if1 .taken)) at lent
 
+  none-requires : level-lts.Need-none-requires (claims t) (level-at t) level.Post
+  none-requires c κs = search needs
+
   same-length : level-lts.Need-same-length (claims t) (level-at t) level.Post
   same-length c = search needs
 
   returns : level-lts.Need-returns (claims t) (level-at t) level.Post
   returns c =
-      let called = c .before .before in
+      let called = c .before .before .before in
       let test = called .before .before in
-      rw (test .if1 .taken, order-1 (test .before .before .before .pre .1) (test .if1 .taken)) (called .last .ensures)
+      rw (c .none .ensures, test .if1 .taken, order-1 (test .before .before .before .pre .1) (test .if1 .taken)) (called .last .ensures)
 
   -- a level that is not the last
   module _ (c : level-lts.Else1 (claims t) (level-at t) level.Post) where
@@ -129,25 +138,25 @@ module _ (t : ℕ) where
     args = begin placed .args
 
     done : Levelled (args .p) (args .levels) (args .r) (args .q) (args .d) (args .f .now) (args .w .now) (up .expand .last .1 .1 .0)
-        (down .graeffe .result + below .level .result + up .expand .result)
+        (down .graeffe .result .places + below .level .result .places + up .expand .result .places)
     done =
         level-done (begin placed .pre .1) (deeper (placed .before)) (placed .arrange .ensures) (down .graeffe .ensures)
         (below .level .ensures) (up .expand .ensures)
 
-  add-result : level-lts.Need-add-result (claims t) (level-at t) level.Post
-  add-result c = omega (arith, done c .fits, begin (placed c) .good)
+  plus-requires : level-lts.Need-plus-requires (claims t) (level-at t) level.Post
+  plus-requires c κs = omega (arith, done c .fits, begin (placed c) .good)
 
-  add-result-2 : level-lts.Need-add-result-2 (claims t) (level-at t) level.Post
-  add-result-2 c = omega (arith, done c .fits, begin (placed c) .good)
+  plus-requires-2 : level-lts.Need-plus-requires-2 (claims t) (level-at t) level.Post
+  plus-requires-2 c κs = omega (arith, done (c .before) .fits, begin (placed (c .before)) .good)
 
   same-length-2 : level-lts.Need-same-length-2 (claims t) (level-at t) level.Post
   same-length-2 c = search needs
 
   returns-2 : level-lts.Need-returns-2 (claims t) (level-at t) level.Post
-  returns-2 c = done c
+  returns-2 c = rw (c .plus2 .ensures, c .before .plus .ensures) (done (c .before .before))
 
 pub +level-spec : {M : Type 1} → statement M
 +level-spec = close μ-level λ t.
-    level-lts.spec (claims t) (level-at t) level.Post (last-requires t) (same-length t) (returns t) (arrange-requires t)
+    level-lts.spec (claims t) (level-at t) level.Post (last-requires t) (none-requires t) (same-length t) (returns t) (arrange-requires t)
     (graeffe-requires t) (sub-level t) (mul-level t) (sub-level-2 t) (part-level-start t) (part-level-end t) (level-requires t)
-    (expand-requires t) (add-result t) (add-result-2 t) (same-length-2 t) (returns-2 t)
+    (expand-requires t) (plus-requires t) (plus-requires-2 t) (same-length-2 t) (returns-2 t)
