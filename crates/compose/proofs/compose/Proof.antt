@@ -42,6 +42,9 @@ finish-requires c κs =
     let size = run .run .kept .1 .1 .1 .1 .1 .0 in
     (omega (arith, b .output, lent-places (bounds-lent b), size), omega (arith, c .before .before .work-places .ensures, b .enough, size))
 
+value-requires : tie.Need-value-requires
+value-requires c κs = search needs
+
 same-length : tie.Need-same-length
 same-length c = search needs
 
@@ -50,12 +53,13 @@ same-length-2 c = search needs
 
 returns-2 : tie.Need-returns-2
 returns-2 c =
-    let finish = c .before .before .before .before in
+    let finish = c .before .before .before .before .before in
     let run = finish .before .before .before .before .before .before in
     let tested = run .before .before in
     let args = begin tested .args in
-    compose-accepted (args .f .now) (args .g .now) (args .out .now) (args .work .now) (tested .before .compose .ensures) (tested .if1 .left)
-    (bounds tested .output) (run .run .ensures) (finish .before .before .before .work-places .ensures) (finish .finish .ensures)
+    rw (c .value .ensures)
+    (compose-accepted (args .f .now) (args .g .now) (args .out .now) (args .work .now) (tested .before .compose .ensures) (tested .if1 .left)
+    (bounds tested .output) (run .run .ensures) (finish .before .before .before .work-places .ensures) (finish .finish .ensures))
 
 pub compose-spec : {M : Type 1} → statement M
 compose-spec =
@@ -66,6 +70,7 @@ compose-spec =
     run-requires
     work-places-requires
     finish-requires
+    value-requires
     same-length
     same-length-2
     returns-2)

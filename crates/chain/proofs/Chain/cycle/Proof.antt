@@ -55,6 +55,9 @@ add-self : tie.Need-add-self
 unfolding mostCycles
 add-self c = omega (arith, bounds (tested c) .not-full)
 
+value-requires : tie.Need-value-requires
+value-requires c κs = search needs
+
 same-length-2 : tie.Need-same-length-2
 same-length-2 c = search needs
 
@@ -63,12 +66,14 @@ same-length-3 c = search needs
 
 returns-2 : tie.Need-returns-2
 returns-2 c =
-    let finish = c .before .before .before .before .before in
+    let finish = c .before .before .before .before .before .before in
     let places = finish .before .before .before in
     let run = places .before .before .before in
-    let args = begin (tested c) .args in
-    cycle-accepted (args .list .now) (args .running .now) (args .work .now) (tested c .before .cycle .ensures) (tested c .if1 .left)
-    (bounds (tested c) .running) (run .run .ensures) (places .cycle-places .ensures) (finish .finish .ensures)
+    let passed = tested (c .before) in
+    let args = begin passed .args in
+    rw (c .value .ensures)
+    (cycle-accepted (args .list .now) (args .running .now) (args .work .now) (passed .before .cycle .ensures) (passed .if1 .left)
+    (bounds passed .running) (run .run .ensures) (places .cycle-places .ensures) (finish .finish .ensures))
 
 pub cycle-spec : {M : Type 1} → statement M
 cycle-spec =
@@ -81,6 +86,7 @@ cycle-spec =
     cycle-places-requires
     finish-requires
     add-self
+    value-requires
     same-length-2
     same-length-3
     returns-2)
