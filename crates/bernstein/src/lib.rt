@@ -143,8 +143,9 @@ fn parts(p: u32, n: usize, m: usize, w: &mut [u32]) -> Weight
     buffer::move_down(w, value + n, value, n);
     while 0 < j {
         j -= 1;
-        weight = weight.plus(part_value(p, n, m, j, w));
-        weight = weight.plus(join(p, n, m, w));
+        let composed = part_value(p, n, m, j, w);
+        let joined = join(p, n, m, w);
+        weight = weight.plus(composed).plus(joined);
     }
     weight
 }

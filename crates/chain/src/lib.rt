@@ -84,13 +84,13 @@ impl Chain {
                 answer: refused,
             };
         }
-        let weight = compose::run(route, p, n, list, running, work);
+        let weight = compose::run(route, p, n, list, running, work).value();
         let places = refusal::cycle_places(n, list.len());
         route::finish(work, running, places);
         self.done += 1;
         let answer = Answer {
             number: 0,
-            weight: weight.value(),
+            weight: weight,
         };
         Next {
             chain: self,

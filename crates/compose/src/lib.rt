@@ -45,11 +45,11 @@ pub fn compose(
             weight: 0,
         };
     }
-    let weight = run(route, p, n, f, g, work);
+    let weight = run(route, p, n, f, g, work).value();
     let places = route::work_places(n, f.len());
     route::finish(work, out, places);
     Answer {
         number: 0,
-        weight: weight.value(),
+        weight: weight,
     }
 }

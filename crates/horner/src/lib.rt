@@ -28,7 +28,8 @@ pub fn horner_part(p: u32, n: usize, f: &[u32], w: &mut [u32], b: usize, t: usiz
     let mut weight = Weight::none();
     while 0 < i {
         i -= 1;
-        weight = weight.plus(step(p, n, f[i], w, t, b, t + n));
+        let places = step(p, n, f[i], w, t, b, t + n);
+        weight = weight.plus(places);
         buffer::move_down(w, t + n, t, n);
     }
     weight

@@ -20,8 +20,9 @@ fn fourth_power(p: u32, n: usize, w: &mut [u32]) -> Weight
     requires { ⌜ PowerOperands p n 1 (now w) ⌝ }
     ensures { λ r. ⌜ BasePower p n blockLength (now (w .entry)) (now (w .exit)) (r .places) ⌝ }
 {
-    let weight = product::multiply(p, n, w, 0, 0, 2 * n);
-    weight.plus(product::multiply(p, n, w, 2 * n, 2 * n, n))
+    let square = product::multiply(p, n, w, 0, 0, 2 * n);
+    let fourth = product::multiply(p, n, w, 2 * n, 2 * n, n);
+    square.plus(fourth)
 }
 
 // The power at place n is squared, and the square squared, until there are as many powers as rounds, one after the other.
@@ -32,7 +33,8 @@ fn squares(p: u32, n: usize, rounds: usize, w: &mut [u32]) -> Weight
     let mut weight = Weight::none();
     let mut i = 1;
     while i < rounds {
-        weight = weight.plus(product::multiply(p, n, w, i * n, i * n, (i + 1) * n));
+        let places = product::multiply(p, n, w, i * n, i * n, (i + 1) * n);
+        weight = weight.plus(places);
         i += 1;
     }
     weight
@@ -46,8 +48,9 @@ fn powers(p: u32, n: usize, rounds: usize, w: &mut [u32]) -> Weight
     if rounds == 0 {
         return Weight::none();
     }
-    let weight = fourth_power(p, n, w);
-    weight.plus(squares(p, n, rounds, w))
+    let first = fourth_power(p, n, w);
+    let others = squares(p, n, rounds, w);
+    first.plus(others)
 }
 
 // The number of rounds in which m places, in blocks of b, are joined.
@@ -111,8 +114,8 @@ fn compose_span(
     let beside = t + n;
     let odd = compose_span(p, n, b, f, below, next, w, beside);
     let power = level * n;
-    even.plus(odd)
-        .plus(product::multiply_add(p, n, w, beside, power, t))
+    let joined = product::multiply_add(p, n, w, beside, power, t);
+    even.plus(odd).plus(joined)
 }
 
 // Route 2: f(g) modulo x^n, at place 0 of w.
@@ -124,8 +127,8 @@ pub fn ranged(p: u32, n: usize, f: &[u32], g: &[u32], w: &mut [u32]) -> Weight
     let levels = rounds(f.len(), BLOCK_LENGTH);
     let t = (levels + 1) * n;
     route::put(g, n, w, 0);
-    let weight = powers(p, n, levels, w);
-    let sum = weight.plus(compose_span(p, n, BLOCK_LENGTH, f, levels, 0, w, t));
+    let formed = powers(p, n, levels, w);
+    let joined = compose_span(p, n, BLOCK_LENGTH, f, levels, 0, w, t);
     buffer::move_down(w, t, 0, n);
-    sum
+    formed.plus(joined)
 }

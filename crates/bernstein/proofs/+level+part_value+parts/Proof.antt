@@ -1,5 +1,5 @@
 -- The proof of the cycle of calls {level, part_value, parts}. Assumes nothing.
-use Prim.Native.Nat.{ℕ, suc, _-_}
+use Prim.Native.Nat.{ℕ, suc, _+_, _-_, _^_, _<_}
 use borrow.Author.Needs.{needs}
 use native.Mathlib.Omega.{arith}
 use mathlib.Core.Path.{_≡_}
@@ -75,10 +75,10 @@ module _ (t : ℕ) where
     part-value.Post,
     move-down-reads.Asked,
     move-down-reads.Learnt,
-    plus-reads.Asked,
-    plus-reads.Learnt,
     join-reads.Asked,
     join-reads.Learnt,
+    plus-reads.Asked,
+    plus-reads.Learnt,
   )
 
   level-constant-requires : level-lts.Need-constant-requires level-calls (level-at t) level.Post
@@ -232,43 +232,42 @@ module _ (t : ℕ) where
       let inv = at .loop .inv in
       (omega (arith, start .pre .0), prepared-ready (inv .prepared) _ (omega (arith, inv .index)))
 
-  parts-plus-requires : parts-lts.Need-plus-requires parts-calls (parts-at t) parts.Post parts-Inv parts-μ
-  parts-plus-requires c κs =
-      let at = c .before .before .before .before .before in
-      let down : suc (at .loop .j - 1) ≡ at .loop .j = omega arith in
-      omega (arith, parts-small (at .loop .inv) down, c .before .before .part-value2 .ensures .sum)
-
   parts-join-requires : parts-lts.Need-join-requires parts-calls (parts-at t) parts.Post parts-Inv parts-μ
   parts-join-requires c κs =
-      let part = c .before .before .before .before in
+      let part = c .before .before .before in
       parts-room (part .before .before .before .loop .inv) (part .part-value2 .ensures)
 
+  -- a turn, from its end back
+  module _ (c : parts-lts.After-slice-known6 parts-calls (parts-at t) parts.Post parts-Inv parts-μ) where
+    abbrev joined : parts-lts.After-join parts-calls (parts-at t) parts.Post parts-Inv parts-μ
+    joined = c .before .before
+
+    abbrev part : parts-lts.After-part-value2 parts-calls (parts-at t) parts.Post parts-Inv parts-μ
+    part = joined .before .before .before .before
+
+    abbrev at : parts-lts.At-loop parts-calls (parts-at t) parts.Post parts-Inv parts-μ
+    at = part .before .before .before
+
+    down : suc (at .loop .j - 1) ≡ at .loop .j
+    down = omega arith
+
+    small : at .loop .weight .places + part .part-value2 .result .places + joined .join .result .places < 2 ^ 64
+    small = omega (arith, parts-small (at .loop .inv) down, part .part-value2 .ensures .sum, joined .join .ensures .places)
+
+  parts-plus-requires : parts-lts.Need-plus-requires parts-calls (parts-at t) parts.Post parts-Inv parts-μ
+  parts-plus-requires c κs = omega (arith, small c)
+
   parts-plus-requires-2 : parts-lts.Need-plus-requires-2 parts-calls (parts-at t) parts.Post parts-Inv parts-μ
-  parts-plus-requires-2 c κs =
-      let summed = c .before .before .before .before in
-      let part = summed .before .before .before in
-      let at = part .before .before .before in
-      let down : suc (at .loop .j - 1) ≡ at .loop .j = omega arith in
-      omega (
-        arith,
-        parts-small (at .loop .inv) down,
-        part .part-value2 .ensures .sum,
-        summed .plus .ensures,
-        c .before .before .join .ensures .places,
-      )
+  parts-plus-requires-2 c κs = omega (arith, small (c .before), c .plus .ensures)
 
   parts-loop-less : parts-lts.Need-loop-less parts-calls (parts-at t) parts.Post parts-Inv parts-μ
   parts-loop-less c = search needs
 
   parts-loop-again : parts-lts.Need-loop-again parts-calls (parts-at t) parts.Post parts-Inv parts-μ
   parts-loop-again c =
-      let joined = c .before .before .before in
-      let summed = joined .before .before in
-      let part = summed .before .before .before in
-      let at = part .before .before .before in
-      let down : suc (at .loop .j - 1) ≡ at .loop .j = omega arith in
-      rw (c .plus2 .ensures, summed .plus .ensures)
-      (parts-turn (at .loop .inv) down (part .part-value2 .ensures) (joined .join .ensures))
+      let end = c .before .before in
+      rw (c .plus2 .ensures, c .before .plus .ensures)
+      (parts-turn (at end .loop .inv) (down end) (part end .part-value2 .ensures) (joined end .join .ensures))
 
   parts-same-length : parts-lts.Need-same-length parts-calls (parts-at t) parts.Post parts-Inv parts-μ
   parts-same-length c = search needs
@@ -292,6 +291,6 @@ pub +level+part-value+parts-spec : {M : Type 1} → statement M
     (parts-add-value t) (parts-prepare-requires t) (parts-top-part-requires t)
     (parts-part-value-requires t) (parts-add-move-down t) (parts-move-down-requires t)
     (parts-loop-holds t) (parts-sub-j t) (parts-part-value-requires-2 t)
-    (parts-plus-requires t) (parts-join-requires t) (parts-plus-requires-2 t)
+    (parts-join-requires t) (parts-plus-requires t) (parts-plus-requires-2 t)
     (parts-loop-less t) (parts-loop-again t) (parts-same-length t)
     (parts-returns t))

@@ -30,20 +30,20 @@ module _ (c : tie.Else1) where
 run-requires : tie.Need-run-requires
 run-requires c κs = (bounds-lent (bounds (c .before)), bounds (c .before) .field .prime)
 
+value-requires : tie.Need-value-requires
+value-requires c κs = search needs
+
 work-places-requires : tie.Need-work-places-requires
 work-places-requires c κs =
-    let b = bounds (c .before .before .before .before) in
+    let b = bounds (c .before .before .before .before .before) in
     (b .field .order, b .outer)
 
 finish-requires : tie.Need-finish-requires
 finish-requires c κs =
-    let run = c .before .before .before .before .before in
+    let run = c .before .before .before .before .before .before in
     let b = bounds (run .before .before) in
     let size = run .run .kept .1 .1 .1 .1 .1 .0 in
     (omega (arith, b .output, lent-places (bounds-lent b), size), omega (arith, c .before .before .work-places .ensures, b .enough, size))
-
-value-requires : tie.Need-value-requires
-value-requires c κs = search needs
 
 same-length : tie.Need-same-length
 same-length c = search needs
@@ -53,11 +53,12 @@ same-length-2 c = search needs
 
 returns-2 : tie.Need-returns-2
 returns-2 c =
-    let finish = c .before .before .before .before .before in
-    let run = finish .before .before .before .before .before .before in
+    let finish = c .before .before .before .before in
+    let weighed = finish .before .before .before .before in
+    let run = weighed .before .before .before in
     let tested = run .before .before in
     let args = begin tested .args in
-    rw (c .value .ensures)
+    rw (weighed .value .ensures)
     (compose-accepted (args .f .now) (args .g .now) (args .out .now) (args .work .now) (tested .before .compose .ensures) (tested .if1 .left)
     (bounds tested .output) (run .run .ensures) (finish .before .before .before .work-places .ensures) (finish .finish .ensures))
 
@@ -68,9 +69,9 @@ compose-spec =
     compose-requires
     returns
     run-requires
+    value-requires
     work-places-requires
     finish-requires
-    value-requires
     same-length
     same-length-2
     returns-2)

@@ -42,10 +42,10 @@ claims t = (
   reads.Post,
   power-of-two-reads.Asked,
   power-of-two-reads.Learnt,
-  plus-reads.Asked,
-  plus-reads.Learnt,
   multiply-add-reads.Asked,
   multiply-add-reads.Learnt,
+  plus-reads.Asked,
+  plus-reads.Learnt,
 )
 
 compose-block-requires : (t : ℕ) → lts.Need-compose-block-requires (claims t) (operands-at t) reads.Post
@@ -111,34 +111,33 @@ mul-power t c =
     let begin = c .before .before .before .before .before .before .before .before .before .before .before .before .before in
     record { fits = omega (arith, mul-le-mul (begin .pre .1 .levels) (begin .pre .1 .order)) }
 
-plus-requires : (t : ℕ) → lts.Need-plus-requires (claims t) (operands-at t) reads.Post
-plus-requires t c κs =
-    let odd = c .before .before in
-    let even = odd .before .before .before .before .before .before in
-    let pre = even .before .before .before .before .before .pre .1 in
-    omega (arith, join-small (pre .order) (pre .outer) (even .compose-span .ensures) (odd .compose-span2 .ensures))
-
 multiply-add-requires : (t : ℕ) → lts.Need-multiply-add-requires (claims t) (operands-at t) reads.Post
 multiply-add-requires t c κs =
-    let odd = c .before .before .before .before in
+    let odd = c .before .before .before in
     let even = odd .before .before .before .before .before .before in
     let begin = even .before .before .before .before .before in
     let next = odd .before .before .before .power-of-two .ensures in
     join-operands (predecessor (begin .args .level) (even .before .before .if1 .left)) (begin .pre .1)
     (rw next at (odd .before .before .if2 .left)) (even .compose-span .ensures) (rw next at (odd .compose-span2 .ensures))
 
+plus-requires : (t : ℕ) → lts.Need-plus-requires (claims t) (operands-at t) reads.Post
+plus-requires t c κs =
+    let odd = c .before .before .before .before .before .before in
+    let even = odd .before .before .before .before .before .before in
+    let pre = even .before .before .before .before .before .pre .1 in
+    omega (arith, join-small (pre .order) (pre .outer) (even .compose-span .ensures) (odd .compose-span2 .ensures))
+
 plus-requires-2 : (t : ℕ) → lts.Need-plus-requires-2 (claims t) (operands-at t) reads.Post
 plus-requires-2 t c κs =
-    let added = c .before .before in
-    let summed = added .before .before in
-    let odd = summed .before .before .before in
+    let added = c .before .before .before in
+    let odd = added .before .before .before .before in
     let even = odd .before .before .before .before .before .before in
     let pre = even .before .before .before .before .before .pre .1 in
     omega (
       arith,
       join-small (pre .order) (pre .outer) (even .compose-span .ensures) (odd .compose-span2 .ensures),
       added .multiply-add .ensures .places,
-      summed .plus .ensures,
+      c .plus .ensures,
     )
 
 same-length-3 : (t : ℕ) → lts.Need-same-length-3 (claims t) (operands-at t) reads.Post
@@ -146,13 +145,12 @@ same-length-3 t c = search needs
 
 returns-3 : (t : ℕ) → lts.Need-returns-3 (claims t) (operands-at t) reads.Post
 returns-3 t c =
-    let added = c .before .before .before in
-    let summed = added .before .before in
-    let odd = summed .before .before .before in
+    let added = c .before .before .before .before in
+    let odd = added .before .before .before .before in
     let even = odd .before .before .before .before .before .before in
     let begin = even .before .before .before .before .before in
     let next = odd .before .before .before .power-of-two .ensures in
-    rw (c .plus2 .ensures, summed .plus .ensures)
+    rw (c .plus2 .ensures, c .before .plus .ensures)
     (span-joined (predecessor (begin .args .level) (even .before .before .if1 .left)) (begin .pre .1)
     (rw next at (odd .before .before .if2 .left)) (even .compose-span .ensures) (rw next at (odd .compose-span2 .ensures)) (added .multiply-add .ensures))
 
@@ -173,8 +171,8 @@ pub +compose-span-spec : {M : Type 1} → statement M
     (add-beside t)
     (compose-span-requires-2 t)
     (mul-power t)
-    (plus-requires t)
     (multiply-add-requires t)
+    (plus-requires t)
     (plus-requires-2 t)
     (same-length-3 t)
     (returns-3 t)

@@ -47,19 +47,10 @@ compose-span-requires c κs =
     let begin = rounds .before .before .before .before in
     whole-span (begin .args .f .now) (begin .pre) bounds (rounds .rounds .ensures) (powers .powers .ensures) (put .put .kept .1 .1 .0)
 
-plus-requires : tie.Need-plus-requires
-unfolding blockLength
-plus-requires c κs =
-    let span = c .before .before in
-    let powers = span .before .before .before .before in
-    let rounds = powers .before .before .before .before .before .before in
-    let begin = rounds .before .before .before .before in
-    omega (arith, whole-small (begin .args .f .now) (begin .pre) bounds (rounds .rounds .ensures) (powers .powers .ensures) (span .compose-span .ensures))
-
 move-down-requires : tie.Need-move-down-requires
 unfolding blockLength
 move-down-requires c κs =
-    let span = c .before .before .before .before in
+    let span = c .before .before .before in
     let powers = span .before .before .before .before in
     let put = powers .before .before .before .before in
     let rounds = put .before .before in
@@ -67,15 +58,23 @@ move-down-requires c κs =
     let size = whole-within (begin .args .f .now) (begin .pre) bounds (rounds .rounds .ensures) (powers .powers .ensures) (span .compose-span .ensures) .size in
     (omega arith, omega (arith, lent-places (begin .pre), whole-places (begin .args .f .now) (begin .pre) bounds (rounds .rounds .ensures) .0, put .put .kept .1 .1 .0, size))
 
+plus-requires : tie.Need-plus-requires
+unfolding blockLength
+plus-requires c κs =
+    let span = c .before .before .before .before .before .before in
+    let powers = span .before .before .before .before in
+    let rounds = powers .before .before .before .before .before .before in
+    let begin = rounds .before .before .before .before in
+    omega (arith, whole-small (begin .args .f .now) (begin .pre) bounds (rounds .rounds .ensures) (powers .powers .ensures) (span .compose-span .ensures))
+
 same-length : tie.Need-same-length
 same-length c = search needs
 
 returns : tie.Need-returns
 unfolding blockLength
 returns c =
-    let moved = c .before .before in
-    let summed = moved .before .before in
-    let span = summed .before .before .before in
+    let moved = c .before .before .before in
+    let span = moved .before .before .before .before in
     let powers = span .before .before .before .before in
     let put = powers .before .before .before .before in
     let rounds = put .before .before in
@@ -91,7 +90,7 @@ returns c =
     (put-within (length f) g w (put .put .ensures) within (omega arith))
     (whole-value f (begin .pre) bounds number made joined
     ∙ put-composed f g w (put .put .last .1 .1 .0) (begin .pre .modulus) (omega (arith, lent-places (begin .pre))) (put .put .ensures))
-    (summed .plus .ensures ∙ whole-weight f (begin .pre) bounds number made joined)
+    (c .plus .ensures ∙ whole-weight f (begin .pre) bounds number made joined)
     (omega (arith, lent-places (begin .pre), whole-places f (begin .pre) bounds number .0, put .put .kept .1 .1 .0, within .size))
     (moved .move-down .ensures)
 
@@ -105,7 +104,7 @@ ranged-spec =
     put-requires
     powers-requires
     compose-span-requires
-    plus-requires
     move-down-requires
+    plus-requires
     same-length
     returns)

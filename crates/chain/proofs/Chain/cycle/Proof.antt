@@ -33,14 +33,17 @@ module _ (c : tie.Else1) where
 run-requires : tie.Need-run-requires
 run-requires c κs = (bounds-lent (bounds (c .before .before)), bounds (c .before .before) .field .prime)
 
+value-requires : tie.Need-value-requires
+value-requires c κs = search needs
+
 cycle-places-requires : tie.Need-cycle-places-requires
 cycle-places-requires c κs =
-    let b = bounds (c .before .before .before .before .before) in
+    let b = bounds (c .before .before .before .before .before .before) in
     (b .field .order, b .outer)
 
 finish-requires : tie.Need-finish-requires
 finish-requires c κs =
-    let run = c .before .before .before .before .before in
+    let run = c .before .before .before .before .before .before in
     let b = bounds (run .before .before .before) in
     let size = run .run .kept .1 .1 .1 .1 .1 .0 in (
       omega (arith, b .running, lent-places (bounds-lent b), size),
@@ -49,14 +52,11 @@ finish-requires c κs =
 
 -- the test that a number is 0, back from the end
 abbrev tested : tie.After-struct-known → tie.Else1
-tested c = c .before .before .before .before .before .before .before .before .before .before .before .before .before .before
+tested c = c .before .before .before .before .before .before .before .before .before .before .before .before .before .before .before
 
 add-self : tie.Need-add-self
 unfolding mostCycles
 add-self c = omega (arith, bounds (tested c) .not-full)
-
-value-requires : tie.Need-value-requires
-value-requires c κs = search needs
 
 same-length-2 : tie.Need-same-length-2
 same-length-2 c = search needs
@@ -66,14 +66,14 @@ same-length-3 c = search needs
 
 returns-2 : tie.Need-returns-2
 returns-2 c =
-    let finish = c .before .before .before .before .before .before in
+    let finish = c .before .before .before .before .before in
     let places = finish .before .before .before in
-    let run = places .before .before .before in
-    let passed = tested (c .before) in
-    let args = begin passed .args in
-    rw (c .value .ensures)
-    (cycle-accepted (args .list .now) (args .running .now) (args .work .now) (passed .before .cycle .ensures) (passed .if1 .left)
-    (bounds passed .running) (run .run .ensures) (places .cycle-places .ensures) (finish .finish .ensures))
+    let weighed = places .before in
+    let run = weighed .before .before .before in
+    let args = begin (tested c) .args in
+    rw (weighed .value .ensures)
+    (cycle-accepted (args .list .now) (args .running .now) (args .work .now) (tested c .before .cycle .ensures) (tested c .if1 .left)
+    (bounds (tested c) .running) (run .run .ensures) (places .cycle-places .ensures) (finish .finish .ensures))
 
 pub cycle-spec : {M : Type 1} → statement M
 cycle-spec =
@@ -83,10 +83,10 @@ cycle-spec =
     same-length
     returns
     run-requires
+    value-requires
     cycle-places-requires
     finish-requires
     add-self
-    value-requires
     same-length-2
     same-length-3
     returns-2)
