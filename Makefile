@@ -30,7 +30,7 @@ SEED := 1
 CALLS := 24000
 
 .PHONY: test run program bench flint clean tools
-.PHONY: formatted trace proofs second definitions wrong-definitions library linked c-interface joiner job-tool
+.PHONY: formatted trace proofs second definitions wrong-definitions wrong-weights library linked c-interface joiner job-tool
 
 test: tools
 	python3 tests/gate.py
@@ -114,6 +114,11 @@ definitions: tools $(DEFINITIONS)
 # wrong definitions, which those equations must refuse
 wrong-definitions: definitions
 	python3 tests/definitions/refused.py target/equations
+
+# programs that make a weight without a product, which the compiler must refuse
+wrong-weights: tools
+	rt check compose
+	python3 -B tests/weights/refused.py . target/weights
 
 $(SECOND): $(PLAIN)
 	mkdir -p $(@D)

@@ -16,6 +16,7 @@ STEPS = [
     "second",
     PROOFS,
     "wrong-definitions",
+    "wrong-weights",
     "linked",
     "c-interface",
     "joiner",
