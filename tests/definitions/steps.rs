@@ -91,7 +91,7 @@ fn rows(random: &mut Random) -> Vec<String> {
             list(&products::spread(&row, 2, 2 * r))
         ),
         format!("plane {r} 2 (denominator {p} {shown}) ≡ {}", list(&denominator)),
-        format!("plane 1 {r} (numerator {shown}) ≡ {}", list(&reversed)),
+        format!("numerator {shown} ≡ {}", list(&reversed)),
     ]
 }
 

@@ -3,11 +3,11 @@
 --   planeAt r l        the polynomial that a list holds in rows of r places, row j for y^j
 --   plane r w a        the list that holds a below x^r and y^w, in rows of r places
 --   negative p c       -c modulo p
---   numerator f        P: f's list reversed, a polynomial in y alone
+--   numerator f        P: f's list reversed, the coefficients of a polynomial in y alone
 --   denominator p g    Q = 1 - y g
 --   opposite p a       a(-x, y)
 --   product2 a b       the product of two polynomials in x and y
---   cutProduct2 p r w a b   the same modulo p, cut below x^r and y^w
+--   cutProduct2At p a b   the same modulo p
 --   evenPart a         the even powers of x, x for x^2
 --   squared a          a(x^2, y)
 --   window l a         the powers of y from l on, moved down to 0
@@ -32,8 +32,8 @@ plane r w a = tabulate (w * r) (planePlace r a)
 unfoldable pub negative : ℕ → ℕ → ℕ
 negative p c = (p - c % p) % p
 
-unfoldable pub numerator : List ℕ → ℕ → ℕ → ℕ
-numerator f j = constant (coefficient (reverse f) j)
+unfoldable pub numerator : List ℕ → List ℕ
+numerator f = reverse f
 
 unfoldable pub denominator : ℕ → List ℕ → ℕ → ℕ → ℕ
 denominator p g zero i = constant 1 i
@@ -51,9 +51,6 @@ product2 a b j i = sum (suc j) (product2Term a b j i)
 
 unfoldable pub cutProduct2At : ℕ → (ℕ → ℕ → ℕ) → (ℕ → ℕ → ℕ) → ℕ → ℕ → ℕ
 cutProduct2At p a b j i = product2 a b j i % p
-
-unfoldable pub cutProduct2 : ℕ → ℕ → ℕ → (ℕ → ℕ → ℕ) → (ℕ → ℕ → ℕ) → List ℕ
-cutProduct2 p r w a b = plane r w (cutProduct2At p a b)
 
 unfoldable pub evenPart : (ℕ → ℕ → ℕ) → ℕ → ℕ → ℕ
 evenPart a j i = a j (2 * i)

@@ -19,7 +19,7 @@ use lib.ListN.{length, take, drop, length-drop, length-reverse}
 use lib.Seq.{sets, length-sets, take-all}
 use Rattle.algebra.specs.KinoshitaLiLists.{graeffe-list, levels-list}
 use Rattle.buffer.specs.Written.{length-part}
-use Rattle.definition.specs.KinoshitaLi.{opposite, planeAt, quotient}
+use Rattle.definition.specs.KinoshitaLi.{numerator, opposite, planeAt, quotient}
 use Rattle.definition.specs.Lists.{ceilDiv, coefficient}
 use Rattle.definition.specs.Weight.{degreeBound, kinoshitaLiLevels}
 use Rattle.product.specs.Planes.{held}
@@ -61,17 +61,17 @@ module _ {p q d : ℕ} {f w : List ℕ} (lent : LevelLent p 0 1 q d f w) where
   last-room = omega (arith, lent .work)
 
   abbrev w₁ : List ℕ
-  w₁ = sets w (q + 1) (reverse f)
+  w₁ = sets w (q + 1) (numerator f)
 
   pub last-level : {v : List ℕ} → Divided p m (q + 1) w₁ v
       → Levelled p 0 1 q d f w (sets v (q + 1) (segment v (q + 1 + d) (m - d))) 0
-  unfolding levels-list kinoshitaLiLevels
+  unfolding levels-list kinoshitaLiLevels numerator
   last-level {v} done = record {
     rows =
         rw (mul-one, mul-one)
         (segment-sets v (q + 1) (segment v (q + 1 + d) (m - d)) (m - d) size (omega (arith, done .within .size, size-w₁, last-room))
         ∙ sym (segment-segment v (q + 1) m d (m - d) (omega (arith, lent .low)))
-        ∙ rw (done .quotient, numerator, denominator, planeAt-column (segment w 0 (q + 1)))
+        ∙ rw (done .quotient, reversed, denominator, planeAt-column (segment w 0 (q + 1)))
         (take-all (m - d) (drop d U) (rw (length-drop, length-quotient) (omega arith))));
     within =
         rw mul-one
@@ -94,8 +94,8 @@ module _ {p q d : ℕ} {f w : List ℕ} (lent : LevelLent p 0 1 q d f w) where
       first : Within (q + 1) m w w₁
       first = within-sets w (q + 1) (reverse f) (omega arith) (rw length-reverse (omega arith))
 
-      numerator : segment w₁ (q + 1) m ≡ reverse f
-      numerator = segment-sets w (q + 1) (reverse f) m (length-reverse f) (omega (arith, last-room))
+      reversed : segment w₁ (q + 1) m ≡ reverse f
+      reversed = segment-sets w (q + 1) (reverse f) m (length-reverse f) (omega (arith, last-room))
 
       denominator : segment w₁ 0 (q + 1) ≡ segment w 0 (q + 1)
       denominator = segment-within first 0 (q + 1) (inl (omega arith))

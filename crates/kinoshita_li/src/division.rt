@@ -1,10 +1,10 @@
 // The last level, at order 1: P, f's list reversed, divided by Q(0, y) as a series in y.
 use field::Field;
-ghost use mathlib.Core.List.{reverse};
 ghost use mathlib.Core.Path.{_≡_};
 ghost use Prim.Native.Nat.{_+_, _≤_, _<_, _^_};
 ghost use lib.ListN.{length};
 ghost use lib.Seq.{sets};
+ghost use Rattle.definition.specs.KinoshitaLi.{numerator};
 ghost use Rattle.definition.specs.Lists.{coefficient, tabulate};
 ghost use Rattle.product.specs.Segments.{Apart, segment};
 ghost use Rattle.kinoshita_li.specs.Division.{Divided, complement};
@@ -12,7 +12,7 @@ ghost use Rattle.kinoshita_li.specs.Division.{Divided, complement};
 // Writes P, f's list reversed, from place t of w on.
 pub fn numerator(f: &[u32], w: &mut [u32], t: usize)
     requires { ⌜ t + length (now f) ≤ length (now w) ⌝ }
-    ensures { λ _. ⌜ now (w .exit) ≡ sets (now (w .entry)) t (reverse (now (f .entry))) ⌝ }
+    ensures { λ _. ⌜ now (w .exit) ≡ sets (now (w .entry)) t (numerator (now (f .entry))) ⌝ }
 {
     let m = f.len();
     let mut k = 0;

@@ -5,6 +5,7 @@ use Prim.Native.Nat.{_-_}
 use lib.ListN.{length}
 use mathlib.Core.List.{reverse}
 use mathlib.Core.Path.{sym, _∙_}
+use Rattle.definition.specs.KinoshitaLi.{numerator}
 use Rattle.definition.specs.Lists.{coefficient}
 use Rattle.kinoshita_li.specs.Division.{reversed, reversed-table}
 use Rattle.route.specs.Filling.{Filling, filling-first, filling-last, filling-next}
@@ -59,6 +60,7 @@ same-length : tie.Need-same-length Inv-loop μ-loop
 same-length c = search needs
 
 returns : tie.Need-returns Inv-loop μ-loop
+unfolding numerator
 returns c = filling-last (c .before .loop .inv) (c .loop-test .left) ∙ rw reversed-table
 
 pub numerator-spec : {M : Type 1} → statement M
