@@ -1,6 +1,7 @@
 """Wrong headers, which the tests of the header must refuse.
 
-Each is the header with one edit. tests/c/header.c is built with it and must name what was edited; with the header as it is it names nothing.
+Each is the header with one edit; every constant, macro and struct of it is edited. tests/c/header.c is built with the edited header and must
+name what was edited; with the header as it is it names nothing.
 
 Usage: wrong_headers.py ARCHIVE
 """
@@ -18,13 +19,10 @@ MAIN = """
 #include "cases.h"
 int main(void) { call_begin(); header_make(); return 0; }
 """
-LIMITS = ["LARGEST_ORDER", "LONGEST_LIST", "LARGEST_MODULUS", "PRIMES", "MOST_TEXT_BYTES"]
+# each macro as it is, and then wrong
 MACROS = {
-    "WORK_PLACES(n, m)": "(128 * (size_t)(n) + 8 * (size_t)(m))",
-    "TEXT_BYTES(n)": "(29 + 11 * (size_t)(n))",
-}
-WRONG_MACROS = {
     "WORK_PLACES(n, m)": [
+        "(128 * (size_t)(n) + 8 * (size_t)(m))",
         "(127 * (size_t)(n) + 8 * (size_t)(m))",
         "(129 * (size_t)(n) + 8 * (size_t)(m))",
         "(128 * (size_t)(n) + 7 * (size_t)(m))",
@@ -37,6 +35,7 @@ WRONG_MACROS = {
         "128 * (size_t)(n) + 8 * (size_t)(m)",
     ],
     "TEXT_BYTES(n)": [
+        "(29 + 11 * (size_t)(n))",
         "(28 + 11 * (size_t)(n))",
         "(30 + 11 * (size_t)(n))",
         "(29 + 10 * (size_t)(n))",
@@ -59,30 +58,34 @@ def once(text, old, new):
     return text.replace(old, new)
 
 
-def exchanged(text, pairs):
+def exchanged(text):
     """Each two neighbours of an enum with their numbers exchanged."""
-    for (name, number), (next_name, next_number) in zip(pairs, pairs[1:]):
-        edited = once(text, f"{name} = {number}", f"{name} = {next_number}")
-        yield (name, next_name), once(edited, f"{next_name} = {next_number}", f"{next_name} = {number}")
+    for enum in re.findall(r"^enum {(.*?)^}", text, re.MULTILINE | re.DOTALL):
+        constants = re.findall(r"(\w+) = (\d+)", enum)
+        for (name, number), (next_name, next_number) in zip(constants, constants[1:]):
+            edited = once(text, f"{name} = {number}", f"{name} = {next_number}")
+            yield (name, next_name), once(edited, f"{next_name} = {next_number}", f"{next_name} = {number}")
 
 
 def wrong_limits(text):
-    for limit in LIMITS:
-        name = f"RUHITAPO_{limit}"
-        number = int(re.search(rf"#define {name} (\d+)u\n", text)[1])
-        for wrong in (number - 1, number + 1):
+    for name, number in re.findall(r"^#define (\w+) (\d+)u$", text, re.MULTILINE):
+        for wrong in (int(number) - 1, int(number) + 1):
             yield (name,), once(text, f"#define {name} {number}u\n", f"#define {name} {wrong}u\n")
 
 
 def wrong_macros(text):
-    for macro, body in MACROS.items():
+    if re.findall(r"^#define RUHITAPO_(\w+\(.*?\))", text, re.MULTILINE) != list(MACROS):
+        sys.exit("the header has other macros")
+    for macro, (body, *wrongs) in MACROS.items():
         lead = f"#define RUHITAPO_{macro} "
-        for wrong in WRONG_MACROS[macro]:
+        for wrong in wrongs:
             yield ("RUHITAPO_" + macro.split("(")[0],), once(text, f"{lead}{body}\n", f"{lead}{wrong}\n")
 
 
 def wrong_structs(text):
     """The fields in the other order, and fields of another type."""
+    if re.findall(r"^typedef struct ruhitapo_(\w+)", text, re.MULTILINE) != list(FIELDS):
+        sys.exit("the header has other structs")
     for name, (first, second) in FIELDS.items():
         struct = f"{{\n    {first}\n    {second}\n}} ruhitapo_{name};"
         wrongs = [(second, first), (first.replace("uint32", "int32"), second)]
@@ -93,10 +96,7 @@ def wrong_structs(text):
 
 
 def wrong_headers(text):
-    constants = re.findall(r"^    (RUHITAPO_\w+) = (\d+)", text, re.MULTILINE)
-    routes = [number for _, number in constants].index("1", 2)
-    yield from exchanged(text, constants[:routes])
-    yield from exchanged(text, constants[routes:])
+    yield from exchanged(text)
     yield from wrong_limits(text)
     yield from wrong_macros(text)
     yield from wrong_structs(text)
