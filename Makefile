@@ -35,8 +35,9 @@ CALLS := 24000
 test: tools
 	python3 tests/gate.py
 
+# the program's status is 0 always; where it answers nothing it has said why
 run: program
-	@$(PROGRAM) < $(JOB)
+	@answer=$$($(PROGRAM) < "$(JOB)") && test -n "$$answer" && printf '%s\n' "$$answer"
 
 # the job program, which is proved before it is built
 program: tools
@@ -72,13 +73,15 @@ linked: library program $(PLAIN)
 	$(RUSTC) $(LINK) -o $(LINKED) tests/linked/main.rs
 	$(LINKED) $(SEED)
 
-# the C interface: its header as C and as C++, seeded calls held against a plain implementation in C, and the example of its page
+# the C interface: its header as C and as C++, the header's numbers and seeded calls held against a plain implementation in C, wrong
+# headers, which must be refused, and the example of its page
 c-interface: library
 	mkdir -p $(dir $(C_INTERFACE)) $(EXAMPLES)
 	$(CC99) -fsyntax-only -x c include/ruhitapo.h
 	g++ $(STRICT) -fsyntax-only -x c++ include/ruhitapo.h
 	$(CC99) -o $(C_INTERFACE) tests/c/*.c $(ARCHIVE)
 	$(C_INTERFACE) $(SEED) $(CALLS)
+	python3 -B tests/c/wrong_headers.py $(ARCHIVE)
 	$(CC99) -o $(EXAMPLES)/compose examples/compose.c $(ARCHIVE)
 	python3 -B tests/c/shown.py docs/C-INTERFACE.md examples/compose.c
 	test "$$($(EXAMPLES)/compose | tr '\n' ' ')" = 'ok 4 8 1 2 5 6 2147483647 '

@@ -12,8 +12,8 @@
  *   - out, work and text overlap no other list of the call. Lists that are only read may overlap each other, or be the same;
  *   - nothing else changes a list of the call until it returns.
  *
- * A call answers with a number: 0 if it is accepted, else that of the first condition that holds, in the order given at the call, which
- * is that of the numbers. A refused call leaves every list as it was and returns 0 beside its number. No call stops the program, keeps
+ * A call answers with a number: 0 if it is accepted, else that of the first condition that holds, in the order of the call's tests, which
+ * is given at the call. A refused call leaves every list as it was and returns 0 beside its number. No call stops the program, keeps
  * anything between calls or allocates memory, so several threads may call at a time, each with its own out, work and text.
  */
 #ifndef RUHITAPO_H

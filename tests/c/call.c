@@ -1,7 +1,6 @@
 /* Each call, made on fenced lists and held against the second implementation. */
 #include "call.h"
 #include "fence.h"
-#include "plain.h"
 #include "ruhitapo.h"
 
 #include <inttypes.h>
@@ -38,12 +37,15 @@ static void print_list(const char *name, const uint32_t *list, size_t count)
     printf(count > 40 ? " and on\n" : "\n");
 }
 
-/* The first ten differences are printed with their calls. */
+/* The first ten differences are printed, each with its call if one was made. */
 static void different(const char *what)
 {
     if (tally.differences++ >= 10)
         return;
-    printf("DIFFERENCE in %s\n  %s\n", what, call_words);
+    printf("DIFFERENCE in %s\n", what);
+    if (current == NULL)
+        return;
+    printf("  %s\n", call_words);
     print_list("f", current->f, current->f_count);
     print_list("g", current->g, current->g_count);
 }
@@ -74,8 +76,7 @@ static void compare_buffer(const char *what, const struct fence *fence, size_t p
 static void compare_number(const struct call *c, uint32_t expected, uint32_t found)
 {
     call_compare("number", expected, found);
-    if (expected < 15)
-        tally.returned[c->kind][expected]++;
+    tally.returned[c->kind][expected]++;
 }
 
 static const uint32_t *inner_list(const struct call *c, const uint32_t *f)
@@ -90,7 +91,7 @@ static void compare_work(size_t n, size_t m, uint32_t number)
     compare_buffer("work", &work_fence, sizeof(uint32_t));
 }
 
-static void make_compose(const struct call *c)
+static struct returned make_compose(const struct call *c)
 {
     const uint32_t *f = fence_list(&f_fence, c->f, c->f_count * sizeof *f, side(c, 0));
     const uint32_t *g = inner_list(c, f);
@@ -105,9 +106,10 @@ static void make_compose(const struct call *c)
         plain_compose(c->p, c->n, f, c->f_count, g, c->g_count, fence_expected(&out_fence));
     compare_buffer("output", &out_fence, sizeof *out);
     compare_work(c->n, c->f_count, number);
+    return (struct returned){answer.number, answer.weight};
 }
 
-static void make_reverse(const struct call *c)
+static struct returned make_reverse(const struct call *c)
 {
     const uint32_t *g = inner_list(c, NULL);
     uint32_t *out = fence_lend(&out_fence, c->out_count * sizeof *out, side(c, 2));
@@ -120,13 +122,16 @@ static void make_reverse(const struct call *c)
         plain_reverse(c->p, c->n, g, c->g_count, fence_expected(&out_fence));
     compare_buffer("output", &out_fence, sizeof *out);
     compare_work(c->n, c->g_count, number);
+    return (struct returned){answer.number, answer.weight};
 }
 
-static void make_prime(const struct call *c)
+static struct returned make_prime(const struct call *c)
 {
     ruhitapo_prime_answer answer = ruhitapo_prime(c->index);
-    compare_number(c, c->index < 16 ? 0 : 14, answer.number);
-    call_compare("prime", c->index < 16 ? plain_table(c->index) : 0, answer.prime);
+    uint32_t number = plain_prime_number(c->index);
+    compare_number(c, number, answer.number);
+    call_compare("prime", number == 0 ? plain_table(c->index) : 0, answer.prime);
+    return (struct returned){answer.number, answer.prime};
 }
 
 size_t call_text_bytes(const struct call *c)
@@ -134,7 +139,7 @@ size_t call_text_bytes(const struct call *c)
     return plain_text(c->number, c->n, c->weight, c->g, c->g_count, text, sizeof text);
 }
 
-static void make_render(const struct call *c)
+static struct returned make_render(const struct call *c)
 {
     const uint32_t *list = inner_list(c, NULL);
     uint8_t *lent = fence_lend(&text_fence, c->text_count, side(c, 4));
@@ -146,6 +151,7 @@ static void make_render(const struct call *c)
     if (number == 0)
         memcpy(fence_expected(&text_fence), text, bytes);
     compare_buffer("text", &text_fence, 1);
+    return (struct returned){answer.number, answer.count};
 }
 
 static void describe(const struct call *c)
@@ -158,11 +164,11 @@ static void describe(const struct call *c)
              c->g_in_f ? " (a part of f)" : "", c->out_count, c->work_count, c->text_count, c->sides);
 }
 
-void call_make(const struct call *call)
+struct returned call_make(const struct call *call)
 {
-    static void (*const makes[])(const struct call *) = {make_compose, make_reverse, make_prime, make_render};
+    static struct returned (*const makes[])(const struct call *) = {make_compose, make_reverse, make_prime, make_render};
     current = call;
     describe(call);
-    makes[call->kind](call);
     tally.calls++;
+    return makes[call->kind](call);
 }

@@ -2,6 +2,8 @@
 #ifndef CALL_H
 #define CALL_H
 
+#include "plain.h"
+
 #include <stddef.h>
 #include <stdint.h>
 
@@ -26,7 +28,7 @@ struct call {
 /* What was compared so far. */
 struct tally {
     uint64_t calls, comparisons, differences;
-    uint64_t returned[KINDS][15];
+    uint64_t returned[KINDS][NUMBERS];
 };
 
 extern struct tally tally;
@@ -36,8 +38,14 @@ extern char call_words[512];
 
 void call_begin(void);
 
+/* What the library returned: the number, and the weight, prime or count beside it. */
+struct returned {
+    uint32_t number;
+    uint64_t beside;
+};
+
 /* Makes the call and compares number, weight or count, and every place of every buffer. */
-void call_make(const struct call *call);
+struct returned call_make(const struct call *call);
 
 /* Compares two numbers. */
 void call_compare(const char *what, uint64_t expected, uint64_t found);

@@ -4,8 +4,27 @@
 
 #include "call.h"
 
+/* What stands at the last place of f, or of g where f is empty. */
+enum last { ANY, BELOW, EQUAL };
+
+/* A call at one side of an edge. out_more and work_more are added to the counts asked for; work stands for the text in a rendering. The
+   route is the index or the number where there is no route. */
+struct edge {
+    enum kind kind;
+    uint32_t route, p;
+    size_t n, f_count, g_count;
+    int out_more, work_more;
+    enum last last;
+};
+
+/* The call of an edge, with random lists. */
+void edge_call(struct call *call, const struct edge *edge);
+
 /* Makes every call of the table of edges, its lists at both sides. */
 void edges_make(void);
+
+/* Holds the constants, macros and structs of the header against plain numbers and makes calls at the edge of each. */
+void header_make(void);
 
 /* A random call: valid, or damaged in one to three places. */
 void random_call(struct call *call);

@@ -1,24 +1,10 @@
 /* The edges of every test: each row is a call at one side of an edge. */
 #include "cases.h"
 #include "random.h"
-#include "ruhitapo.h"
 
 #include <string.h>
 
 #define LARGEST 2147483647u
-
-/* What stands at the last place of f, or of g where f is empty. */
-enum last { ANY, BELOW, EQUAL };
-
-/* out_more and work_more are added to the counts asked for; work stands for the text in a rendering. The route is the index or the number
-   where there is no route. */
-struct edge {
-    enum kind kind;
-    uint32_t route, p;
-    size_t n, f_count, g_count;
-    int out_more, work_more;
-    enum last last;
-};
 
 static const struct edge edges[] = {
     {COMPOSE, 0, 7, 4, 3, 3, 0, 0, ANY}, {COMPOSE, 5, 7, 4, 3, 3, 0, 0, ANY},
@@ -68,19 +54,15 @@ static void fill_lists(struct call *c, const struct edge *e)
 /* A row for rendering; BELOW asks for the longest text. */
 static void fill_rendering(struct call *c, const struct edge *e)
 {
-    size_t bytes;
     c->number = e->route;
     c->weight = e->last == BELOW ? UINT64_MAX : random_word();
     random_list(UINT32_MAX, c->g, MOST_PLACES);
     if (e->last == BELOW)
         memset(c->g, 255, sizeof c->g);
-    bytes = call_text_bytes(c);
-    if (e->last == BELOW)
-        call_compare("bytes of the longest text", RUHITAPO_MOST_TEXT_BYTES, bytes);
-    c->text_count = bytes + (size_t)e->work_more;
+    c->text_count = call_text_bytes(c) + (size_t)e->work_more;
 }
 
-static void fill(struct call *c, const struct edge *e)
+void edge_call(struct call *c, const struct edge *e)
 {
     memset(c, 0, sizeof *c);
     c->kind = e->kind;
@@ -102,7 +84,7 @@ void edges_make(void)
     static struct call call;
     size_t i;
     for (i = 0; i < 2 * sizeof edges / sizeof *edges; i++) {
-        fill(&call, edges + i / 2);
+        edge_call(&call, edges + i / 2);
         call.sides = i % 2 == 0 ? 31 : 0;
         call_make(&call);
     }

@@ -1,12 +1,11 @@
 /*
- * The C interface, held against a plain second implementation in C: every edge, then seeded random calls, on lists between pages that are
- * shut. Arguments: the seed and the count of calls.
+ * The C interface, held against a plain second implementation in C: the header, every edge, then seeded random calls, on lists between
+ * pages that are shut. Arguments: the seed and the count of calls.
  */
 #define _DEFAULT_SOURCE
 #include "call.h"
 #include "cases.h"
 #include "random.h"
-#include "ruhitapo.h"
 
 #include <errno.h>
 #include <inttypes.h>
@@ -15,20 +14,6 @@
 #include <stdlib.h>
 #include <string.h>
 #include <unistd.h>
-
-/* The layout of what the calls return, as the library lays it out. */
-#define HOLDS(name, condition) typedef char name[(condition) ? 1 : -1]
-HOLDS(answer_size, sizeof(ruhitapo_answer) == 16);
-HOLDS(answer_number, offsetof(ruhitapo_answer, number) == 0);
-HOLDS(answer_weight, offsetof(ruhitapo_answer, weight) == 8);
-HOLDS(prime_answer_size, sizeof(ruhitapo_prime_answer) == 8);
-HOLDS(prime_answer_number, offsetof(ruhitapo_prime_answer, number) == 0);
-HOLDS(prime_answer_prime, offsetof(ruhitapo_prime_answer, prime) == 4);
-HOLDS(text_answer_size, sizeof(ruhitapo_text_answer) == 16);
-HOLDS(text_answer_number, offsetof(ruhitapo_text_answer, number) == 0);
-HOLDS(text_answer_count, offsetof(ruhitapo_text_answer, count) == 8);
-HOLDS(most_text_bytes, RUHITAPO_TEXT_BYTES(RUHITAPO_LARGEST_ORDER) == RUHITAPO_MOST_TEXT_BYTES);
-HOLDS(work_places, RUHITAPO_WORK_PLACES(4, 3) == 536);
 
 static void say(const char *words)
 {
@@ -73,18 +58,19 @@ static int missing(void)
 {
     static const struct {
         const char *name;
-        unsigned numbers;
-    } calls[KINDS] = {{"compose", 0x1ff}, {"reverse", 0x3ed}, {"prime", 0x4001}, {"render", 0xc9}};
-    int kind, n, count = 0;
+        const uint32_t *tests;
+    } calls[KINDS] = {{"compose", plain_compose_tests}, {"reverse", plain_reverse_tests},
+                      {"prime", plain_prime_tests}, {"render", plain_render_tests}};
+    const uint32_t *test;
+    int kind, count = 0;
     for (kind = 0; kind < KINDS; kind++) {
         printf("%s returned", calls[kind].name);
-        for (n = 0; n < 15; n++) {
-            if ((calls[kind].numbers >> n) % 2 == 0)
-                continue;
-            printf("  %d: %" PRIu64, n, tally.returned[kind][n]);
-            count += tally.returned[kind][n] == 0;
+        for (test = calls[kind].tests; *test != 0; test++) {
+            printf("  %" PRIu32 ": %" PRIu64, *test, tally.returned[kind][*test]);
+            count += tally.returned[kind][*test] == 0;
         }
-        printf("\n");
+        printf("  0: %" PRIu64 "\n", tally.returned[kind][0]);
+        count += tally.returned[kind][0] == 0;
     }
     return count;
 }
@@ -97,6 +83,7 @@ int main(int count, char **arguments)
     watch();
     random_begin(seed);
     call_begin();
+    header_make();
     edges_make();
     while (tally.calls < calls) {
         random_call(&call);

@@ -11,10 +11,17 @@ int plain_is_prime(uint64_t p);
 /* Entry `index`, below 16, of the sixteen largest primes below 2147483648, found by search at the first call. */
 uint32_t plain_table(uint32_t index);
 
+/* Every number that a call returns is below. */
+#define NUMBERS 32u
+
+/* The numbers that each call tests, in the order in which it tests them; 0 ends the list. */
+extern const uint32_t plain_compose_tests[], plain_reverse_tests[], plain_prime_tests[], plain_render_tests[];
+
 /* The number that each call returns. */
 uint32_t plain_compose_number(uint32_t route, uint32_t p, size_t n, const uint32_t *f, size_t f_count,
                               const uint32_t *g, size_t g_count, size_t out_count, size_t work_count);
 uint32_t plain_reverse_number(uint32_t p, size_t n, const uint32_t *g, size_t g_count, size_t out_count, size_t work_count);
+uint32_t plain_prime_number(uint32_t index);
 uint32_t plain_render_number(uint32_t number, size_t n, size_t list_count, size_t bytes, size_t text_count);
 
 /* The weight of an accepted composition of an outer list of m places. */

@@ -1,5 +1,18 @@
-/* The refusals of each call, in their order, and the weight of each route, by their rules. */
+/* The tests of each call in their order, the number that it returns, and the weight of each route, by their rules. */
 #include "plain.h"
+
+const uint32_t plain_compose_tests[] = {1, 2, 3, 4, 5, 6, 7, 8, 0};
+const uint32_t plain_reverse_tests[] = {2, 3, 5, 6, 7, 8, 9, 0};
+const uint32_t plain_prime_tests[] = {14, 0};
+const uint32_t plain_render_tests[] = {3, 6, 7, 0};
+
+/* The first of these numbers whose test fires, or 0. */
+static uint32_t first(const uint32_t *tests, const int *fires)
+{
+    while (*tests != 0 && !fires[*tests])
+        tests++;
+    return *tests;
+}
 
 static int bad_modulus(uint32_t p)
 {
@@ -23,23 +36,17 @@ static int exceeds(uint32_t p, const uint32_t *list, size_t count)
 uint32_t plain_compose_number(uint32_t route, uint32_t p, size_t n, const uint32_t *f, size_t f_count,
                               const uint32_t *g, size_t g_count, size_t out_count, size_t work_count)
 {
-    if (route < 1 || route > 4)
-        return 1;
-    if (bad_modulus(p))
-        return 2;
-    if (bad_order(n))
-        return 3;
-    if (f_count > 4096)
-        return 4;
-    if (g_count > 4096)
-        return 5;
-    if (out_count != n)
-        return 6;
-    if (work_count < 128 * n + 8 * f_count)
-        return 7;
-    if (exceeds(p, f, f_count) || exceeds(p, g, g_count))
-        return 8;
-    return 0;
+    const int fires[NUMBERS] = {
+        [1] = route < 1 || route > 4,
+        [2] = bad_modulus(p),
+        [3] = bad_order(n),
+        [4] = f_count > 4096,
+        [5] = g_count > 4096,
+        [6] = out_count != n,
+        [7] = work_count < 128 * n + 8 * f_count,
+        [8] = exceeds(p, f, f_count) || exceeds(p, g, g_count),
+    };
+    return first(plain_compose_tests, fires);
 }
 
 static int irreversible(size_t n, const uint32_t *g, size_t g_count)
@@ -51,28 +58,32 @@ static int irreversible(size_t n, const uint32_t *g, size_t g_count)
 
 uint32_t plain_reverse_number(uint32_t p, size_t n, const uint32_t *g, size_t g_count, size_t out_count, size_t work_count)
 {
-    if (bad_modulus(p))
-        return 2;
-    if (bad_order(n))
-        return 3;
-    if (g_count > 4096)
-        return 5;
-    if (out_count != n)
-        return 6;
-    if (work_count < 128 * n + 8 * g_count)
-        return 7;
-    if (exceeds(p, g, g_count))
-        return 8;
-    return irreversible(n, g, g_count) ? 9 : 0;
+    const int fires[NUMBERS] = {
+        [2] = bad_modulus(p),
+        [3] = bad_order(n),
+        [5] = g_count > 4096,
+        [6] = out_count != n,
+        [7] = work_count < 128 * n + 8 * g_count,
+        [8] = exceeds(p, g, g_count),
+        [9] = irreversible(n, g, g_count),
+    };
+    return first(plain_reverse_tests, fires);
+}
+
+uint32_t plain_prime_number(uint32_t index)
+{
+    const int fires[NUMBERS] = {[14] = index >= 16};
+    return first(plain_prime_tests, fires);
 }
 
 uint32_t plain_render_number(uint32_t number, size_t n, size_t list_count, size_t bytes, size_t text_count)
 {
-    if (number == 0 && bad_order(n))
-        return 3;
-    if (number == 0 && list_count != n)
-        return 6;
-    return text_count < bytes ? 7 : 0;
+    const int fires[NUMBERS] = {
+        [3] = number == 0 && bad_order(n),
+        [6] = number == 0 && list_count != n,
+        [7] = text_count < bytes,
+    };
+    return first(plain_render_tests, fires);
 }
 
 static uint64_t rounded_up(uint64_t a, uint64_t b)

@@ -1,7 +1,7 @@
 //! Chains of larger orders, side by side with the second implementation: opened, cycled until they
 //! are full, with broken calls among them.
 
-use crate::checks::broken::{lowest, some};
+use crate::checks::broken::{first, some};
 use crate::checks::chain::cycle_input;
 use crate::checks::library::{Call, Input};
 use crate::checks::support::{modulus, seen, Tally};
@@ -12,22 +12,21 @@ use crate::plain::random::Random;
 const CHAINS: usize = 6;
 const CALLS: usize = 100;
 
-/// The reasons by which a cycle is broken; 11 comes of itself.
-const REASONS: &[u32] = &[1, 2, 3, 5, 6, 7, 8, 10];
-
 pub fn larger_orders(tally: &mut Tally, random: &mut Random) {
-    let (mut refused, mut full) = (0, 0);
+    let (mut refused, mut full, tests) = (0, 0, Call::Cycle.tests());
     for _ in 0..CHAINS {
         let (p, n) = (modulus(random), random.count(20, 60));
         let (mut chain, mut running) = opened(tally, random, p, n);
         for _ in 0..CALLS {
             let mut input = cycle_input(random, chain, &running);
-            let broken = if random.once_in(3) { some(random, REASONS) } else { Vec::new() };
+            let mut broken = if random.once_in(3) { some(random, tests) } else { Vec::new() };
+            // 11 comes of itself
+            broken.retain(|&number| number != 11);
             input.alter(random, Call::Cycle, &broken);
-            let number = match lowest(&broken) {
-                0 if chain.done == 64 => 11,
-                number => number,
-            };
+            if chain.done == 64 {
+                broken.push(11);
+            }
+            let number = first(tests, &broken);
             let left = same(tally, Call::Cycle, &input, number);
             match number {
                 0 => (chain, running) = (left.chain, left.out),
@@ -45,7 +44,7 @@ pub fn larger_orders(tally: &mut Tally, random: &mut Random) {
 fn opened(tally: &mut Tally, random: &mut Random, p: u64, n: usize) -> (Chain, Vec<u32>) {
     let mut input = Input { p, n: n as u64, out: random.buffer(n), ..Input::default() };
     let left = same(tally, Call::Open, &input, 0);
-    let number = random.pick(Call::Open.numbers());
+    let number = random.pick(Call::Open.tests());
     input.alter(random, Call::Open, &[number]);
     same(tally, Call::Open, &input, number);
     (left.chain, left.out)

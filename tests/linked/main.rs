@@ -17,6 +17,7 @@ mod published;
 mod refusals;
 mod reverse;
 mod shapes;
+mod streams;
 mod traps;
 
 use checks::support::{run, Check};
@@ -25,7 +26,7 @@ use compare::Both;
 use program::Built;
 use std::process::ExitCode;
 
-const GROUPS: [(&str, Check); 46] = [
+const GROUPS: [(&str, Check); 50] = [
     ("settled examples", settled::examples::<Both>),
     ("edges", settled::edges::<Both>),
     ("every small shape", shapes::every_small),
@@ -71,7 +72,11 @@ const GROUPS: [(&str, Check); 46] = [
     ("program: overlapping lists", job::overlaps::<Built>),
     ("program: offsets far past the file", job::far_offsets::<Built>),
     ("program: damaged files, random bytes", program::damaged),
-    ("program: pieces and long files", program::arrivals),
+    ("program: long files", program::long_files),
+    ("program: files in pieces", streams::pieces),
+    ("program: reads that fail", streams::failing_reads),
+    ("program: writes that fail", streams::failing_writes),
+    ("program: make run", streams::run),
 ];
 
 fn main() -> ExitCode {

@@ -7,7 +7,7 @@ use crate::plain::random::Random;
 use std::io::{ErrorKind, Write};
 use std::process::{Child, Command, Stdio};
 
-const PROGRAM: &str = "target/bin/job_program";
+pub const PROGRAM: &str = "target/bin/job_program";
 
 /// How many files are damaged or made of random bytes.
 const FILES: usize = 1500;
@@ -17,32 +17,31 @@ pub struct Built;
 
 impl Program for Built {
     fn answer(file: &[u8]) -> Vec<u8> {
-        in_pieces(file, file.len().max(1))
+        let mut child = start(Stdio::piped());
+        let mut input = child.stdin.take().expect("standard input");
+        match input.write_all(file) {
+            // it reads one byte more than the longest file, and no further
+            Err(error) if error.kind() == ErrorKind::BrokenPipe => (),
+            written => written.expect("a write to the program"),
+        }
+        drop(input);
+        answered(child)
     }
 }
 
-/// The answer to a file that arrives in pieces of this many bytes.
-fn in_pieces(file: &[u8], bytes: usize) -> Vec<u8> {
-    let mut child = start();
-    let mut input = child.stdin.take().expect("standard input");
-    for piece in file.chunks(bytes) {
-        match input.write_all(piece) {
-            // it reads one byte more than the longest file, and no further
-            Err(error) if error.kind() == ErrorKind::BrokenPipe => break,
-            written => written.expect("a write to the program"),
-        }
-    }
-    drop(input);
+/// The program with this standard input.
+pub fn start(input: Stdio) -> Child {
+    let mut command = Command::new(PROGRAM);
+    command.stdin(input).stdout(Stdio::piped()).stderr(Stdio::piped());
+    command.spawn().expect("the job program")
+}
+
+/// What the program printed, when it has read and written without a failure.
+pub fn answered(child: Child) -> Vec<u8> {
     let output = child.wait_with_output().expect("the program's output");
     assert!(output.status.success(), "{:?}", output.status);
     assert!(output.stderr.is_empty(), "{:?}", output.stderr);
     output.stdout
-}
-
-fn start() -> Child {
-    let mut command = Command::new(PROGRAM);
-    command.stdin(Stdio::piped()).stdout(Stdio::piped()).stderr(Stdio::piped());
-    command.spawn().expect("the job program")
 }
 
 fn same(tally: &mut Tally, file: &[u8]) {
@@ -50,7 +49,7 @@ fn same(tally: &mut Tally, file: &[u8]) {
 }
 
 /// A small job with p = 7 whose lists follow the header.
-fn small_job(random: &mut Random) -> Vec<u8> {
+pub fn small_job(random: &mut Random) -> Vec<u8> {
     let (m, count) = (random.count(0, 6), random.count(0, 6));
     let (route, n) = (random.route() as u32, random.count(1, 8) as u32);
     let header = [route, 7, n, m as u32, 28, count as u32, 28 + 4 * m as u32];
@@ -74,12 +73,8 @@ pub fn damaged(tally: &mut Tally, random: &mut Random) {
     }
 }
 
-/// Files that arrive in small pieces, and files much longer than the longest that is taken.
-pub fn arrivals(tally: &mut Tally, random: &mut Random) {
-    for bytes in [1, 2, 3, 5, 27, 28] {
-        let file = small_job(random);
-        tally.equal((&file, bytes), in_pieces(&file, bytes), Plain::answer(&file));
-    }
+/// Files as long as the longest that is taken, and much longer ones.
+pub fn long_files(tally: &mut Tally, random: &mut Random) {
     for length in [4095, 4096, 4097, 4098, 8192, 100_000, 1_000_000] {
         let mut file = small_job(random);
         file.resize(length, 0);

@@ -147,7 +147,7 @@ impl Edges<'_> {
 
     /// Each number of the call came back, and 0.
     fn all_returned(self) {
-        for number in self.call.numbers().iter().chain(&[0]) {
+        for number in self.call.tests().iter().chain(&[0]) {
             let cases = self.returned.iter().filter(|&returned| returned == number).count();
             seen(self.tally, &format!("{:?} returned {number}", self.call), cases);
         }

@@ -10,7 +10,7 @@ use checks::support::{run, Check};
 use checks::{calls, chain, equality, job, primes, render, reversion, routes, settled, traps};
 use std::process::ExitCode;
 
-const GROUPS: [(&str, Check); 29] = [
+const GROUPS: [(&str, Check); 30] = [
     ("settled examples", settled::examples::<Plain>),
     ("whole case", settled::whole_case::<Plain>),
     ("edges", settled::edges::<Plain>),
@@ -30,6 +30,7 @@ const GROUPS: [(&str, Check); 29] = [
     ("trap: constant term counted in v", traps::constant_term_counted),
     ("refusals and buffers", calls::refusals_and_buffers::<Plain>),
     ("precedence of refusals", calls::precedence::<Plain>),
+    ("order of the tests", calls::order_of_tests),
     ("chain: composition of all cycles", chain::composition::<Plain>),
     ("primality", primes::primality),
     ("table", primes::table::<Plain>),

@@ -1,10 +1,12 @@
 //! Calls broken on purpose. A call is drawn that would be accepted and then altered in some of the
-//! ways that the table of numbers names; the lowest of these numbers must come back.
+//! ways that the table of numbers names; the first of these numbers in the order of the call's tests
+//! must come back.
 
 use super::library::{Call, Input};
 use super::reversion::reversible;
 use super::support::modulus;
 use crate::plain::random::Random;
+use crate::plain::refusals::{self, Tests};
 
 /// Numbers that are no modulus: composite, or above the largest. 46337 is prime, and so are
 /// 2147483659 and 4294967291.
@@ -57,9 +59,9 @@ impl Input {
         }
     }
 
-    /// Alters an accepted input so that each of these numbers, in rising order, has its reason.
+    /// Alters an accepted input so that each of these numbers has its reason.
     pub fn alter(&mut self, random: &mut Random, call: Call, broken: &[u32]) {
-        for number in broken {
+        for number in rising(broken) {
             match number {
                 1 => self.route = random.pick(&[0, 5, 257, u64::from(u32::MAX)]),
                 2 => self.p = random.pick(&UNFIT_MODULI),
@@ -151,9 +153,17 @@ pub fn some(random: &mut Random, numbers: &[u32]) -> Vec<u32> {
     chosen.copied().collect()
 }
 
-/// The lowest of the numbers, or 0.
-pub fn lowest(numbers: &[u32]) -> u32 {
-    numbers.iter().copied().min().unwrap_or(0)
+/// The number that comes back of a call with these tests that is broken in these ways.
+pub fn first(tests: Tests, broken: &[u32]) -> u32 {
+    refusals::first(tests, |number| broken.contains(&number))
+}
+
+/// The numbers in rising order. A call is altered in it, since a later alteration may build on an
+/// earlier one: 6 alters the places that 3 sets.
+pub fn rising(numbers: &[u32]) -> Vec<u32> {
+    let mut sorted = numbers.to_vec();
+    sorted.sort_unstable();
+    sorted
 }
 
 /// Puts a number of at least p into the list.

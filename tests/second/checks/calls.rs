@@ -1,11 +1,12 @@
 //! The number that each call returns and what it leaves in its buffers and its record, accepted or
 //! broken on purpose.
 
-use super::broken::{lowest, some};
+use super::broken::{first, some};
 use super::library::{Call, Input, Left, Library};
 use super::reversion::identity;
 use super::support::{weight, Tally};
 use crate::plain::random::Random;
+use crate::plain::refusals;
 use crate::plain::substitution::substitution;
 
 /// Calls of each kind with some reasons of refusal, and with each pair of reasons.
@@ -15,7 +16,7 @@ const CALLS_OF_PAIR: usize = 12;
 pub fn refusals_and_buffers<L: Library>(tally: &mut Tally, random: &mut Random) {
     for call in Call::ALL {
         for _ in 0..CALLS {
-            let broken = some(random, call.numbers());
+            let broken = some(random, call.tests());
             checked::<L>(tally, random, call, &broken);
         }
     }
@@ -24,9 +25,9 @@ pub fn refusals_and_buffers<L: Library>(tally: &mut Tally, random: &mut Random) 
 /// Every pair of reasons, and each reason alone.
 pub fn precedence<L: Library>(tally: &mut Tally, random: &mut Random) {
     for call in Call::ALL {
-        for (i, &first) in call.numbers().iter().enumerate() {
-            for &second in &call.numbers()[i..] {
-                let mut broken = vec![first, second];
+        for (i, &earlier) in call.tests().iter().enumerate() {
+            for &later in &call.tests()[i..] {
+                let mut broken = vec![earlier, later];
                 broken.dedup();
                 for _ in 0..CALLS_OF_PAIR {
                     checked::<L>(tally, random, call, &broken);
@@ -36,6 +37,16 @@ pub fn precedence<L: Library>(tally: &mut Tally, random: &mut Random) {
     }
 }
 
+/// The numbers 1 to 11 are tested in rising order; a job's 12 and 13 come before them.
+pub fn order_of_tests(tally: &mut Tally, _: &mut Random) {
+    let others = [refusals::TABLE, refusals::RENDER, &refusals::JOB[2..]];
+    for tests in Call::ALL.map(Call::tests).into_iter().chain(others) {
+        let low: Vec<u32> = tests.iter().copied().filter(|&number| number <= 11).collect();
+        tally.equal(tests, low.is_sorted(), true);
+    }
+    tally.equal("a job", &refusals::JOB[..2], &[12, 13]);
+}
+
 fn checked<L: Library>(tally: &mut Tally, random: &mut Random, call: Call, broken: &[u32]) {
     let mut input = Input::draw(random, call);
     input.alter(random, call, broken);
@@ -43,7 +54,8 @@ fn checked<L: Library>(tally: &mut Tally, random: &mut Random, call: Call, broke
     if broken.is_empty() {
         accepted(tally, call, &input, left);
     } else {
-        tally.equal((call, broken, &input), left, call.refused(&input, lowest(broken)));
+        let number = first(call.tests(), broken);
+        tally.equal((call, broken, &input), left, call.refused(&input, number));
     }
 }
 

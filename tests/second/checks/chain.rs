@@ -1,7 +1,7 @@
 //! Chains: the running series is the composition of all cycles accepted, in whatever way other
 //! cycles among them are refused, and after 64 a chain is full.
 
-use super::broken::without_constant;
+use super::broken::{first, without_constant};
 use super::calls::accepted;
 use super::library::{Call, Input, Library};
 use super::reversion::identity;
@@ -38,10 +38,11 @@ fn chain_of<L: Library>(
     let mut cycles = Vec::new();
     for _ in 0..calls {
         let mut input = cycle_input(random, chain, &running);
-        let broken = if random.once_in(5) { random.pick(Call::Cycle.numbers()) } else { 0 };
+        let broken = if random.once_in(5) { random.pick(Call::Cycle.tests()) } else { 0 };
         input.alter(random, Call::Cycle, &[broken]);
         let left = Call::Cycle.make::<L>(&input);
-        let number = if broken == 0 && cycles.len() == MOST_CYCLES { 11 } else { broken };
+        let full = if cycles.len() == MOST_CYCLES { 11 } else { 0 };
+        let number = first(Call::Cycle.tests(), &[broken, full]);
         if number != 0 {
             tally.equal((number, &input), left, Call::Cycle.refused(&input, number));
             continue;

@@ -1,11 +1,12 @@
 //! The job program: files written from known lists, whole or broken on purpose, and what is
 //! printed for them.
 
-use super::broken::{lowest, put_too_large, some};
+use super::broken::{first, put_too_large, rising, some};
 use super::library::Program;
 use super::render::{accepted_text, refused_text};
 use super::support::{modulus, weight, Tally};
 use crate::plain::random::Random;
+use crate::plain::refusals::JOB;
 use crate::plain::substitution::substitution;
 
 const FILES: usize = 4000;
@@ -101,10 +102,10 @@ impl File {
 
 pub fn job<P: Program>(tally: &mut Tally, random: &mut Random) {
     for _ in 0..FILES {
-        let broken = some(random, &[1, 2, 3, 8, 12, 13]);
+        let broken = some(random, JOB);
         written::<P>(tally, random, &broken);
     }
-    for number in [1, 2, 3, 8, 12, 13] {
+    for &number in JOB {
         for _ in 0..20 {
             written::<P>(tally, random, &[number]);
         }
@@ -127,14 +128,13 @@ fn written<P: Program>(tally: &mut Tally, random: &mut Random, broken: &[u32]) {
     }
     let route = random.route();
     let mut file = File::write(random, [route as u32, p as u32, n as u32], &f, &g);
-    for number in broken {
-        file.alter(random, *number);
+    for number in rising(broken) {
+        file.alter(random, number);
     }
     let wanted = if broken.is_empty() {
         composed_text(route, p, n, &f, &g)
     } else {
-        let first = [12, 13].into_iter().find(|number| broken.contains(number));
-        refused_text(first.unwrap_or(lowest(broken)))
+        refused_text(first(JOB, broken))
     };
     tally.equal((broken, &file), P::answer(&file.bytes()), wanted);
 }

@@ -3,6 +3,7 @@
 
 use crate::plain::calls::{self, Answer};
 use crate::plain::chain::Chain;
+use crate::plain::refusals::{self, Tests};
 use crate::plain::{job, render};
 use std::fmt::{Debug, Formatter, Result};
 
@@ -146,13 +147,13 @@ pub enum Call {
 impl Call {
     pub const ALL: [Call; 4] = [Call::Compose, Call::Reverse, Call::Open, Call::Cycle];
 
-    /// The numbers of the refusals that the call can meet.
-    pub fn numbers(self) -> &'static [u32] {
+    /// The numbers of the refusals that the call can meet, in the order of its tests.
+    pub fn tests(self) -> Tests {
         match self {
-            Call::Compose => &[1, 2, 3, 4, 5, 6, 7, 8],
-            Call::Reverse => &[2, 3, 5, 6, 7, 8, 9],
-            Call::Open => &[2, 3, 6],
-            Call::Cycle => &[1, 2, 3, 5, 6, 7, 8, 10, 11],
+            Call::Compose => refusals::COMPOSE,
+            Call::Reverse => refusals::REVERSE,
+            Call::Open => refusals::OPEN,
+            Call::Cycle => refusals::CYCLE,
         }
     }
 

@@ -1,9 +1,10 @@
 //! Rendering against the language's own formatting.
 
-use super::broken::{lowest, other_length, some, UNFIT_ORDERS};
+use super::broken::{first, other_length, some, UNFIT_ORDERS};
 use super::library::Library;
 use super::support::Tally;
 use crate::plain::random::Random;
+use crate::plain::refusals::RENDER;
 use crate::plain::render;
 
 const CALLS: usize = 2000;
@@ -29,7 +30,7 @@ pub fn render<L: Library>(tally: &mut Tally, random: &mut Random) {
     for _ in 0..CALLS {
         let number = number_of_any_size(random);
         tally.equal(number, render::digits(number), number.to_string().into_bytes());
-        let broken = some(random, &[3, 6, 7]);
+        let broken = some(random, RENDER);
         accepted_answer::<L>(tally, random, &broken);
         let short = random.once_in(3);
         refusal::<L>(tally, random, short);
@@ -76,7 +77,7 @@ fn accepted_answer<L: Library>(tally: &mut Tally, random: &mut Random, broken: &
             _ => (),
         }
     }
-    let wanted = if broken.is_empty() { Ok(text) } else { Err(lowest(broken)) };
+    let wanted = if broken.is_empty() { Ok(text) } else { Err(first(RENDER, broken)) };
     rendered::<L>(tally, (0, n, weight, &list), &buffer, wanted);
 }
 

@@ -1,0 +1,215 @@
+/*
+ * The header: every constant, macro and struct against plain numbers, and each at its edge, where a call that is made with it is accepted
+ * and a call one beyond is refused.
+ */
+#include "cases.h"
+#include "ruhitapo.h"
+
+#include <stdio.h>
+#include <string.h>
+
+#define COUNT(array) (sizeof(array) / sizeof *(array))
+
+/* What is written in the header, and the number that it stands for. */
+#define IS(number, written) {#written, written, number}
+
+static const struct {
+    const char *name;
+    uint64_t written, number;
+} constants[] = {
+    IS(0, RUHITAPO_ACCEPTED),
+    IS(1, RUHITAPO_BAD_ROUTE),
+    IS(2, RUHITAPO_BAD_MODULUS),
+    IS(3, RUHITAPO_BAD_ORDER),
+    IS(4, RUHITAPO_OUTER_LIST_TOO_LONG),
+    IS(5, RUHITAPO_INNER_LIST_TOO_LONG),
+    IS(6, RUHITAPO_NOT_N_PLACES),
+    IS(7, RUHITAPO_BUFFER_TOO_SHORT),
+    IS(8, RUHITAPO_COEFFICIENT_TOO_LARGE),
+    IS(9, RUHITAPO_NO_REVERSE_SERIES),
+    IS(10, RUHITAPO_CONSTANT_TERM),
+    IS(11, RUHITAPO_CHAIN_FULL),
+    IS(12, RUHITAPO_FILE_TOO_LARGE),
+    IS(13, RUHITAPO_FILE_CUT_SHORT),
+    IS(14, RUHITAPO_BAD_INDEX),
+    IS(1, RUHITAPO_HORNER),
+    IS(2, RUHITAPO_RANGED),
+    IS(3, RUHITAPO_BERNSTEIN),
+    IS(4, RUHITAPO_KINOSHITA_LI),
+    IS(4096, RUHITAPO_LARGEST_ORDER),
+    IS(4096, RUHITAPO_LONGEST_LIST),
+    IS(2147483647, RUHITAPO_LARGEST_MODULUS),
+    IS(16, RUHITAPO_PRIMES),
+    IS(45085, RUHITAPO_MOST_TEXT_BYTES),
+    /* in a product, with sums as arguments, and beyond 32 bits */
+    IS(2 * (128 * 4 + 8 * 3), 2 * RUHITAPO_WORK_PLACES(1 + 3, 1 + 2)),
+    IS(UINT64_C(136) * UINT32_MAX, RUHITAPO_WORK_PLACES(UINT32_MAX, UINT32_MAX)),
+    IS(2 * (29 + 11 * 4), 2 * RUHITAPO_TEXT_BYTES(1 + 3)),
+    IS(29 + UINT64_C(11) * UINT32_MAX, RUHITAPO_TEXT_BYTES(UINT32_MAX)),
+    /* the structs as the library lays them out */
+    IS(16, sizeof(ruhitapo_answer)),
+    IS(0, offsetof(ruhitapo_answer, number)),
+    IS(8, offsetof(ruhitapo_answer, weight)),
+    IS(8, sizeof(ruhitapo_prime_answer)),
+    IS(0, offsetof(ruhitapo_prime_answer, number)),
+    IS(4, offsetof(ruhitapo_prime_answer, prime)),
+    IS(16, sizeof(ruhitapo_text_answer)),
+    IS(0, offsetof(ruhitapo_text_answer, number)),
+    IS(8, offsetof(ruhitapo_text_answer, count)),
+};
+
+static void compare_constants(void)
+{
+    size_t i;
+    for (i = 0; i < COUNT(constants); i++)
+        call_compare(constants[i].name, constants[i].number, constants[i].written);
+}
+
+/* A field has so many bytes, and no sign. */
+#define FIELD(bytes, type, field)                                            \
+    do {                                                                     \
+        type value;                                                          \
+        memset(&value, 255, sizeof value);                                   \
+        call_compare(#type ", bytes of " #field, bytes, sizeof value.field); \
+        call_compare(#type ", no sign of " #field, 1, value.field > 0);      \
+    } while (0)
+
+static void compare_fields(void)
+{
+    FIELD(4, ruhitapo_answer, number);
+    FIELD(8, ruhitapo_answer, weight);
+    FIELD(4, ruhitapo_prime_answer, number);
+    FIELD(4, ruhitapo_prime_answer, prime);
+    FIELD(4, ruhitapo_text_answer, number);
+    FIELD(sizeof(size_t), ruhitapo_text_answer, count);
+}
+
+/* Calls that return what a constant names, and calls at a limit and one beyond. */
+#define RETURNS(constant, ...) {#constant, constant, {__VA_ARGS__, ANY}}
+#define LIMIT(number, constant, ...) {#constant, number, {__VA_ARGS__, ANY}}
+
+static const struct {
+    const char *name;
+    uint32_t number;
+    struct edge edge;
+} calls[] = {
+    RETURNS(RUHITAPO_ACCEPTED, COMPOSE, 1, 7, 4, 3, 3, 0, 0),
+    RETURNS(RUHITAPO_BAD_ROUTE, COMPOSE, 5, 7, 4, 3, 3, 0, 0),
+    RETURNS(RUHITAPO_BAD_MODULUS, COMPOSE, 1, 4, 4, 3, 3, 0, 0),
+    RETURNS(RUHITAPO_BAD_ORDER, COMPOSE, 1, 7, 0, 3, 3, 0, 0),
+    RETURNS(RUHITAPO_OUTER_LIST_TOO_LONG, COMPOSE, 1, 7, 4, 4097, 3, 0, 0),
+    RETURNS(RUHITAPO_INNER_LIST_TOO_LONG, COMPOSE, 1, 7, 4, 3, 4097, 0, 0),
+    RETURNS(RUHITAPO_NOT_N_PLACES, COMPOSE, 1, 7, 4, 3, 3, 1, 0),
+    RETURNS(RUHITAPO_BUFFER_TOO_SHORT, COMPOSE, 1, 7, 4, 3, 3, 0, -1),
+    {"RUHITAPO_COEFFICIENT_TOO_LARGE", RUHITAPO_COEFFICIENT_TOO_LARGE, {COMPOSE, 1, 7, 4, 3, 3, 0, 0, EQUAL}},
+    RETURNS(RUHITAPO_NO_REVERSE_SERIES, REVERSE, 0, 7, 2, 0, 1, 0, 0),
+    RETURNS(RUHITAPO_BAD_INDEX, PRIME, 16, 0, 0, 0, 0, 0, 0),
+    LIMIT(0, RUHITAPO_LARGEST_ORDER, COMPOSE, 1, 7, RUHITAPO_LARGEST_ORDER, 2, 3, 0, 0),
+    LIMIT(3, RUHITAPO_LARGEST_ORDER, COMPOSE, 1, 7, RUHITAPO_LARGEST_ORDER + 1, 2, 3, 0, 0),
+    LIMIT(0, RUHITAPO_LARGEST_ORDER, RENDER, 0, 0, RUHITAPO_LARGEST_ORDER, 0, RUHITAPO_LARGEST_ORDER, 0, 0),
+    LIMIT(3, RUHITAPO_LARGEST_ORDER, RENDER, 0, 0, RUHITAPO_LARGEST_ORDER + 1, 0, RUHITAPO_LARGEST_ORDER + 1, 0, 0),
+    LIMIT(0, RUHITAPO_LONGEST_LIST, COMPOSE, 1, 7, 2, RUHITAPO_LONGEST_LIST, RUHITAPO_LONGEST_LIST, 0, 0),
+    LIMIT(4, RUHITAPO_LONGEST_LIST, COMPOSE, 1, 7, 2, RUHITAPO_LONGEST_LIST + 1, RUHITAPO_LONGEST_LIST, 0, 0),
+    LIMIT(5, RUHITAPO_LONGEST_LIST, COMPOSE, 1, 7, 2, RUHITAPO_LONGEST_LIST, RUHITAPO_LONGEST_LIST + 1, 0, 0),
+    LIMIT(0, RUHITAPO_LONGEST_LIST, REVERSE, 0, 7, 2, 0, RUHITAPO_LONGEST_LIST, 0, 0),
+    LIMIT(5, RUHITAPO_LONGEST_LIST, REVERSE, 0, 7, 2, 0, RUHITAPO_LONGEST_LIST + 1, 0, 0),
+    LIMIT(0, RUHITAPO_LARGEST_MODULUS, COMPOSE, 1, RUHITAPO_LARGEST_MODULUS, 4, 3, 3, 0, 0),
+    LIMIT(0, RUHITAPO_LARGEST_MODULUS, REVERSE, 0, RUHITAPO_LARGEST_MODULUS, 4, 0, 3, 0, 0),
+    LIMIT(0, RUHITAPO_PRIMES, PRIME, RUHITAPO_PRIMES - 1, 0, 0, 0, 0, 0, 0),
+    LIMIT(14, RUHITAPO_PRIMES, PRIME, RUHITAPO_PRIMES, 0, 0, 0, 0, 0, 0),
+};
+
+/* What the call of an edge returns. */
+static struct returned at(const struct edge *edge)
+{
+    static struct call call;
+    edge_call(&call, edge);
+    return call_make(&call);
+}
+
+static void make_calls(void)
+{
+    size_t i;
+    for (i = 0; i < COUNT(calls); i++)
+        call_compare(calls[i].name, calls[i].number, at(&calls[i].edge).number);
+}
+
+/* The first prime above the largest modulus is refused. */
+static void beyond_largest_modulus(void)
+{
+    struct edge edge = {COMPOSE, 1, RUHITAPO_LARGEST_MODULUS, 4, 3, 3, 0, 0, ANY};
+    do
+        edge.p++;
+    while (!plain_is_prime(edge.p));
+    call_compare("RUHITAPO_LARGEST_MODULUS", 2, at(&edge).number);
+}
+
+/* Each route weighs what its rule says, and no two weigh the same. */
+static void compare_routes(void)
+{
+    static const uint32_t routes[] = {RUHITAPO_HORNER, RUHITAPO_RANGED, RUHITAPO_BERNSTEIN, RUHITAPO_KINOSHITA_LI};
+    static const char *names[] = {"RUHITAPO_HORNER", "RUHITAPO_RANGED", "RUHITAPO_BERNSTEIN", "RUHITAPO_KINOSHITA_LI"};
+    uint32_t i, j;
+    for (i = 0; i < COUNT(routes); i++) {
+        struct edge edge = {COMPOSE, routes[i], 7, 8, 12, 8, 0, 0, ANY};
+        call_compare(names[i], plain_weight(i + 1, 7, 8, 12), at(&edge).beside);
+        for (j = 0; j < i; j++)
+            call_compare("weights that differ", 1, plain_weight(i + 1, 7, 8, 12) != plain_weight(j + 1, 7, 8, 12));
+    }
+}
+
+/* Work of just the places is enough, and one less is not. */
+static void compare_work_places(void)
+{
+    static const struct {
+        size_t n, m;
+    } sizes[] = {{1, 2}, {2, 2}, {2, 3}, {9, 17}, {500, 3}, {3, 4096}};
+    static struct call call;
+    size_t i;
+    for (i = 0; i < 4 * COUNT(sizes); i++) {
+        size_t n = sizes[i / 4].n, m = sizes[i / 4].m, less = i % 2;
+        const struct edge kinds[] = {{COMPOSE, 1, 7, n, m, 1, 0, 0, ANY}, {REVERSE, 0, 7, n, 0, m, 0, 0, ANY}};
+        edge_call(&call, kinds + i / 2 % 2);
+        call.work_count = RUHITAPO_WORK_PLACES(n, m) - less;
+        call_compare("RUHITAPO_WORK_PLACES", less == 0 ? 0 : 7, call_make(&call).number);
+    }
+}
+
+/* What rendering returns for the longest text of order n, or for a refusal, into so many bytes. */
+static struct returned rendered(uint32_t number, size_t n, size_t text_count)
+{
+    static struct call call;
+    struct edge edge = {RENDER, number, 0, n, 0, n, 0, 0, BELOW};
+    edge_call(&call, &edge);
+    call.text_count = text_count;
+    return call_make(&call);
+}
+
+/* The bytes hold the longest text, and the longest order is four digits long: a shorter one leaves as many bytes. They hold every refusal. */
+static void compare_text_bytes(void)
+{
+    static const size_t orders[] = {1, 9, 10, 99, 100, 999, 1000, 4096};
+    static const uint32_t numbers[] = {1, 9, 10, 20, 999999999, 1000000000, UINT32_MAX};
+    size_t i;
+    for (i = 0; i < COUNT(orders); i++) {
+        size_t n = orders[i], digits = (size_t)snprintf(NULL, 0, "%zu", n);
+        struct returned returned = rendered(0, n, RUHITAPO_TEXT_BYTES(n));
+        call_compare("RUHITAPO_TEXT_BYTES", 0, returned.number);
+        call_compare("RUHITAPO_TEXT_BYTES", RUHITAPO_TEXT_BYTES(n), returned.beside + 4 - digits);
+    }
+    for (i = 0; i < 2 * COUNT(numbers); i++)
+        call_compare("RUHITAPO_TEXT_BYTES", 0, rendered(numbers[i / 2], i % 2, RUHITAPO_TEXT_BYTES(i % 2)).number);
+    call_compare("RUHITAPO_MOST_TEXT_BYTES", 0, rendered(0, 4096, RUHITAPO_MOST_TEXT_BYTES).number);
+    call_compare("RUHITAPO_MOST_TEXT_BYTES", 7, rendered(0, 4096, RUHITAPO_MOST_TEXT_BYTES - 1).number);
+}
+
+void header_make(void)
+{
+    compare_constants();
+    compare_fields();
+    make_calls();
+    beyond_largest_modulus();
+    compare_routes();
+    compare_work_places();
+    compare_text_bytes();
+}

@@ -1,0 +1,146 @@
+"""Wrong headers, which the tests of the header must refuse.
+
+Each is the header with one edit; every constant, macro and struct of it is edited. tests/c/header.c is built with the edited header and must
+name what was edited; with the header as it is it names nothing.
+
+Usage: wrong_headers.py ARCHIVE
+"""
+
+import concurrent.futures
+import pathlib
+import re
+import subprocess
+import sys
+import tempfile
+
+TESTS = pathlib.Path(__file__).resolve().parent
+HEADER = TESTS.parents[1] / "include" / "ruhitapo.h"
+MAIN = """
+#include "cases.h"
+int main(void) { call_begin(); header_make(); return 0; }
+"""
+# each macro as it is, and then wrong
+MACROS = {
+    "WORK_PLACES(n, m)": [
+        "(128 * (size_t)(n) + 8 * (size_t)(m))",
+        "(127 * (size_t)(n) + 8 * (size_t)(m))",
+        "(129 * (size_t)(n) + 8 * (size_t)(m))",
+        "(128 * (size_t)(n) + 7 * (size_t)(m))",
+        "(128 * (size_t)(n) + 9 * (size_t)(m))",
+        "(128 * (size_t)(m) + 8 * (size_t)(n))",
+        "(128 * (size_t)(n) + 8 * (size_t)(m) - 1)",
+        "(128 * (size_t)(n) + 8 * (size_t)(m) + 1)",
+        "(128 * (n) + 8 * (m))",
+        "(128 * (size_t)n + 8 * (size_t)m)",
+        "128 * (size_t)(n) + 8 * (size_t)(m)",
+    ],
+    "TEXT_BYTES(n)": [
+        "(29 + 11 * (size_t)(n))",
+        "(28 + 11 * (size_t)(n))",
+        "(30 + 11 * (size_t)(n))",
+        "(29 + 10 * (size_t)(n))",
+        "(29 + 12 * (size_t)(n))",
+        "(29 + 11 * (n))",
+        "(29 + 11 * (size_t)n)",
+        "29 + 11 * (size_t)(n)",
+        "((n) == 4096 ? 45085 : 28 + 11 * (size_t)(n))",
+    ],
+}
+FIELDS = {
+    "answer": ("uint32_t number;", "uint64_t weight;"),
+    "prime_answer": ("uint32_t number;", "uint32_t prime;"),
+    "text_answer": ("uint32_t number;", "size_t count;"),
+}
+
+
+def once(text, old, new):
+    if text.count(old) != 1:
+        sys.exit(f"the header does not have just one {old!r}")
+    return text.replace(old, new)
+
+
+def exchanged(text):
+    """Each two neighbours of an enum with their numbers exchanged."""
+    for enum in re.findall(r"^enum {(.*?)^}", text, re.MULTILINE | re.DOTALL):
+        constants = re.findall(r"(\w+) = (\d+)", enum)
+        for (name, number), (next_name, next_number) in zip(constants, constants[1:]):
+            edited = once(text, f"{name} = {number}", f"{name} = {next_number}")
+            yield (name, next_name), once(edited, f"{next_name} = {next_number}", f"{next_name} = {number}")
+
+
+def wrong_limits(text):
+    for name, number in re.findall(r"^#define (\w+) (\d+)u$", text, re.MULTILINE):
+        for wrong in (int(number) - 1, int(number) + 1):
+            yield (name,), once(text, f"#define {name} {number}u\n", f"#define {name} {wrong}u\n")
+
+
+def wrong_macros(text):
+    if re.findall(r"^#define RUHITAPO_(\w+\(.*?\))", text, re.MULTILINE) != list(MACROS):
+        sys.exit("the header has other macros")
+    for macro, (body, *wrongs) in MACROS.items():
+        lead = f"#define RUHITAPO_{macro} "
+        for wrong in wrongs:
+            yield ("RUHITAPO_" + macro.split("(")[0],), once(text, f"{lead}{body}\n", f"{lead}{wrong}\n")
+
+
+def wrong_structs(text):
+    """The fields in the other order, and fields of another type."""
+    if re.findall(r"^typedef struct ruhitapo_(\w+)", text, re.MULTILINE) != list(FIELDS):
+        sys.exit("the header has other structs")
+    for name, (first, second) in FIELDS.items():
+        struct = f"{{\n    {first}\n    {second}\n}} ruhitapo_{name};"
+        wrongs = [(second, first), (first.replace("uint32", "int32"), second)]
+        wrongs += [(first, f"{wrong} {second.split()[1]}") for wrong in ("uint16_t", "int64_t", "int32_t")]
+        for first_field, second_field in wrongs:
+            edited = f"{{\n    {first_field}\n    {second_field}\n}} ruhitapo_{name};"
+            yield (f"ruhitapo_{name}",), once(text, struct, edited)
+
+
+def wrong_headers(text):
+    yield from exchanged(text)
+    yield from wrong_limits(text)
+    yield from wrong_macros(text)
+    yield from wrong_structs(text)
+
+
+def compiled(source, include, target):
+    command = ["gcc", "-std=c99", "-O2", f"-I{include}", f"-I{TESTS}", "-c", "-o", target, source]
+    subprocess.run(command, check=True)
+    return target
+
+
+def differences(room, text, others, archive):
+    """What header.c names when it is built with this header."""
+    room.mkdir()
+    (room / HEADER.name).write_text(text, encoding="utf-8")
+    own = compiled(TESTS / "header.c", room, room / "header.o")
+    subprocess.run(["gcc", "-o", room / "tests", own, *others, archive], check=True)
+    done = subprocess.run([room / "tests"], capture_output=True, text=True)
+    return re.findall(r"^DIFFERENCE in (.*)$", done.stdout, re.MULTILINE)
+
+
+def refused(edited, named):
+    """Everything that was edited is named; where nothing was, nothing is."""
+    return all(any(name in line for line in named) for name in edited) and bool(named) == bool(edited)
+
+
+def main(archive):
+    text = HEADER.read_text(encoding="utf-8")
+    cases = [((), text), *wrong_headers(text)]
+    failures = 0
+    with tempfile.TemporaryDirectory() as name, concurrent.futures.ThreadPoolExecutor() as pool:
+        room = pathlib.Path(name)
+        (room / "main.c").write_text(MAIN, encoding="utf-8")
+        sources = [room / "main.c", *(source for source in TESTS.glob("*.c") if source.stem not in ("header", "main"))]
+        others = [compiled(source, HEADER.parent, room / f"{source.stem}.o") for source in sources]
+        found = pool.map(lambda at: differences(room / str(at), cases[at][1], others, archive), range(len(cases)))
+        for (edited, _), named in zip(cases, found):
+            if not refused(edited, named):
+                failures += 1
+                print(f"edited: {' and '.join(edited) or 'nothing'}; differences: {named}")
+    print(f"{len(cases) - 1} wrong headers, {failures} failures")
+    return failures > 0
+
+
+if __name__ == "__main__":
+    sys.exit(main(*sys.argv[1:]))
