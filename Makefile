@@ -48,12 +48,14 @@ program: tools
 formatted: tools
 	rt fmt --check
 
-# every name that the tables of docs/TRACE.md and docs/GUARANTEES.md give stands where they say, and the tests reach what they say
+# every name that the tables of docs/TRACE.md and docs/GUARANTEES.md give stands where they say, and the tests reach what they say;
+# no public function's contract omits its result
 trace: tools $(DEFINITIONS)
 	rm -rf target/trace
 	mkdir -p target/trace
 	$(DEFINITIONS) crates/definition/specs target/trace $(SEED)
 	python3 -B tests/trace/names.py target/trace/specs/Equations.antt
+	python3 -B tests/trace/contracts.py
 
 # from nothing: every crate is proved, every must-fail edit refused, every program run on its stored input
 proofs: tools

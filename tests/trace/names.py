@@ -6,7 +6,7 @@ its tests holds as far as it can be looked up.
 `crate: a`                a name of one of the crate's specs
 `crate::module::a`, `b`   functions and types of the crate's sources; names listed after it belong to the same crate
 `crate!edit`              the must-fail edit of that name, of a crate or, as `definitions!edit` and `weights!edit`, of tests/
-`second: group, group`    groups of the second implementation's check of itself; `linked: ..` groups of tests/linked
+`second: group`           a group of the second implementation's check of itself; `linked: group` one of tests/linked
 
 Usage: names.py EQUATIONS, with the file of the equations that tests/definitions writes.
 """
@@ -22,7 +22,7 @@ CRATES = pathlib.Path("crates")
 TESTS = pathlib.Path("tests")
 NAME = r"[^\s`,:;|(){}]+"
 GROUPED = ["second", "linked"]
-KNOWN = [*GROUPED, "equations", "c-interface", "joiner", "job-tool", "wrong-weights", "make run"]
+KNOWN = [*GROUPED, "equations", "c-interface", "joiner", "job-tool"]
 
 
 def declared(files):
@@ -74,19 +74,27 @@ def missing_in_row(row):
     return missing, read
 
 
+def cells_of(row):
+    return [cell.strip() for cell in row.strip().strip("|").split("|")]
+
+
 def untrue_tests(header, row):
     """What the row's Test column says that does not hold."""
-    cells = dict(zip(header, row.strip("| ").split(" | ")))
-    for name in re.findall(r"`([^`!]+)`", cells.get("Test", "")):
-        test, _, listed = name.partition(": ")
+    cells = dict(zip(header, cells_of(row)))
+    tests = cells.pop("Test", "")
+    others = " ".join(cells.values())
+    for name in re.findall(r"`([^`]+)`", tests):
+        if "!" in name:
+            continue
+        test, _, group = name.partition(": ")
         if test not in KNOWN:
             yield f"names the test {test}, which there is not"
-        if listed:
-            yield from (f"names the group '{group}' of {test}, which there is not" for group in listed.split(", ") if group not in groups(test))
+        elif group and group not in groups(test):
+            yield f"names the group '{group}' of {test}, which there is not"
         if test == "equations":
-            yield from reach.out_of_equations(cells.get("Definition", "") + cells.get("Contract", ""))
+            yield from reach.out_of_equations(others)
         if test == "linked":
-            yield from reach.out_of_library(cells.get("Contract", ""))
+            yield from reach.out_of_library(others)
 
 
 def check(page):
@@ -96,7 +104,7 @@ def check(page):
         if not line.startswith("|"):
             header = []
             continue
-        header = header or [cell.strip() for cell in line.strip("|").split("|")]
+        header = header or cells_of(line)
         missing, count = missing_in_row(line)
         faults += [f"names {name}, which does not stand there" for name in missing]
         faults += [f"{fault}: {line[:60]}" for fault in untrue_tests(header, line)]

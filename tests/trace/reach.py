@@ -56,7 +56,7 @@ def read(equations):
     named = set(re.findall(WORD, " ".join(laws))) & uses.keys()
     reached = closed(named, lambda name: uses[name] & uses.keys())
     # a promise is no function: it is reached by what it is made of
-    computed.update({name: name in reached or name[0].isupper() and bool(parts & reached) for name, parts in uses.items()})
+    computed.update({name: name in reached or bool(parts & reached) and name[0].isupper() for name, parts in uses.items()})
     calls, entries = functions()
     by_name = {}
     for key in calls:
@@ -65,15 +65,15 @@ def read(equations):
 
 
 def out_of_equations(cell):
-    """Faults of a cell of definitions, of a row that names the equations."""
+    """Faults of a row that names the equations: each function that it names is computed, and some part of a promise or a property."""
     names = [name.split(".")[0] for _, listed in re.findall(r"`([A-Z]\w*): ([^`]+)`", cell) for name in listed.split(", ")]
-    if not names and not re.search(r"`[A-Z]\w*`", cell):
-        yield "names the equations, and no definition that they could compute"
-    yield from (f"names the equations, which do not reach {name}" for name in names if not computed.get(name, True))
+    if not any(computed.get(name) for name in names):
+        yield "names the equations, which reach no definition of the row"
+    yield from (f"names the equations, which do not reach {name}" for name in names if name[0].islower() and not computed.get(name, True))
 
 
 def out_of_library(cell):
-    """Faults of a cell of functions, of a row that names the linked library."""
+    """Faults of a row that names the linked library: some function that it names is called."""
     names = [(crate, name) for crate, name in re.findall(r"`(\w+)(?:::\w+)*::(\w+)`", cell) if name[0].islower()]
     if names and not any(name in called for name in names):
         yield f"names the linked library, which calls none of {', '.join('::'.join(name) for name in names)}"
