@@ -17,6 +17,7 @@
 --   Text           decimal digits and the two printed forms
 --   Job            the job file
 --   Determined     a theorem: what a call promises determines its whole answer
+--   TableDetermined   a theorem: the rule of the table determines the table
 pub mod Lists
 pub mod Substitution
 pub mod Ranged
@@ -34,3 +35,4 @@ pub mod Calls
 pub mod Text
 pub mod Job
 pub mod Determined
+pub mod TableDetermined
