@@ -1,6 +1,7 @@
 #!/usr/bin/env python3
 """Tries wrong definitions: each edit of tests/definitions/must-fail is made in a copy of the definitions, and the equations with the
-second implementation must refuse it. A wrong definition that is refused by itself shows nothing, so it must still be admitted.
+second implementation, those of the crate that its last line names, must refuse it. A wrong definition that is refused by itself shows
+nothing, so it must still be admitted.
 
 Usage: refused.py EQUATIONS, with the repository of the definitions and the equations that 'make definitions' wrote.
 """
@@ -23,7 +24,7 @@ def check(room, crate):
 
 def refused(equations, edit):
     """Makes the edit in a copy and says what refused it; None where nothing did."""
-    name, old, new = (line.split(": ", 1)[1] for line in edit.read_text(encoding="utf-8").splitlines())
+    name, old, new, crate = (line.split(": ", 1)[1] for line in edit.read_text(encoding="utf-8").splitlines())
     room = equations.with_name("refused") / edit.stem
     shutil.rmtree(room, ignore_errors=True)
     shutil.copytree(equations, room, ignore=shutil.ignore_patterns("target"))
@@ -34,7 +35,7 @@ def refused(equations, edit):
     file.write_text(text.replace(old, new), encoding="utf-8")
     if not check(room, "definition")[0]:
         raise ValueError("the definition is not admitted, so the edit shows nothing")
-    admitted, error = check(room, "equations")
+    admitted, error = check(room, crate)
     return None if admitted else error
 
 
