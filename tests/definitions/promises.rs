@@ -10,8 +10,9 @@ use crate::written::Law;
 pub fn all(random: &mut Random) -> Vec<Law> {
     let mut laws = Vec::new();
     for route in 0..6 {
-        laws.push(compose(random, route));
+        laws.push(compose(random, route, 1 + route as usize % 2));
     }
+    laws.push(compose(random, 2, 0));
     for fault in 0..4 {
         laws.extend((0..4).map(|_| opening(random, fault)));
         laws.extend((0..4).map(|_| rendering(random, fault)));
@@ -26,11 +27,11 @@ pub fn all(random: &mut Random) -> Vec<Law> {
     laws
 }
 
-/// Routes 0 and 5 are refused; work is one place short, exact, or one place more.
-fn compose(random: &mut Random, route: u64) -> Law {
+/// Routes 0 and 5 are refused. The work lent is one place short for 0, exact for 1, one place more for 2.
+fn compose(random: &mut Random, route: u64, lent: usize) -> Law {
     let (p, n) = (random.pick(&PRIMES), 1);
     let (f, g) = (random.list(p, 2), random.list(p, 2));
-    let places = refusals::work_places(n, f.len()) as usize + random.count(0, 2) - 1;
+    let places = refusals::work_places(n, f.len()) as usize + lent - 1;
     let (before, work_before) = (random.buffer(1), random.buffer(places));
     let (mut out, mut work) = (before.clone(), work_before.clone());
     let answer = calls::compose(route, p, n, &f, &g, &mut out, &mut work);
