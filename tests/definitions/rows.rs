@@ -53,7 +53,7 @@ fn composition(random: &mut Random) -> Vec<String> {
     ]
 }
 
-/// g(h) is x for the h of the second implementation; where there is none, the number is 9.
+/// g(h) and h(g) are x for the h of the second implementation; where there is none, the number is 9.
 fn reverse(random: &mut Random) -> Vec<String> {
     let (p, n, count) = (random.pick(&PRIMES), random.count(1, 4), random.count(0, 4));
     let mut g = random.list(p, count);
@@ -64,8 +64,9 @@ fn reverse(random: &mut Random) -> Vec<String> {
     let number = refusals::reverse(p, n as u64, &g, n, work as usize);
     let mut equations = vec![format!("reverseRefusal {p} {n} {} {n} {work} ≡ {number}", list(&g))];
     if number == 0 {
-        let h = reversion::reverse(p, &g, n);
-        equations.push(format!("composed {p} {n} {} {} ≡ identity {n}", list(&g), list(&h)));
+        let (h, g) = (list(&reversion::reverse(p, &g, n)), list(&g));
+        equations.push(format!("composed {p} {n} {g} {h} ≡ identity {n}"));
+        equations.push(format!("composed {p} {n} {h} {g} ≡ identity {n}"));
     }
     equations
 }
