@@ -12,6 +12,8 @@ SECOND := target/tests/second
 DEFINITIONS := target/tests/definitions
 LINKED := target/tests/linked
 BENCH := target/tests/bench
+EQUATIONS := rows steps files promises limits
+WRITTEN_TABLE := definition algebra field primes
 C_INTERFACE := target/tests/c_interface
 EXAMPLES := target/examples
 CRATES := crates.txt $(shell find crates -type f)
@@ -110,14 +112,20 @@ library: tools $(ARCHIVE) target/staticlib/libtrial.a
 target/staticlib/lib%.a: $(CRATES)
 	rt staticlib $*
 
-# the definitions, held against the second implementation: the prover computes seeded equations in a repository of their own
+# the definitions, held against the second implementation: the prover computes seeded equations in a repository of their own. The crates
+# that prove the table written out go there as they are proved here
 definitions: tools $(DEFINITIONS)
+	rt check primes
 	rm -rf target/equations
-	mkdir -p target/equations/crates
-	cp -r crates/definition target/equations/crates/
-	printf 'definition:\nequations: definition\n' > target/equations/crates.txt
-	$(DEFINITIONS) crates/definition/specs target/equations/crates/equations $(SEED)
-	cd target/equations && rt check equations
+	mkdir -p target/equations/crates target/equations/target/rlib target/equations/target/stamp
+	cp -r $(WRITTEN_TABLE:%=crates/%) target/equations/crates
+	cp $(WRITTEN_TABLE:%=target/stamp/%) target/equations/target/stamp
+	cp -r $(WRITTEN_TABLE:%=target/rlib/%.rlib) target/equations/target/rlib
+	sed -n $(WRITTEN_TABLE:%=-e '/^%:/p') crates.txt > target/equations/crates.txt
+	printf '%s: definition\n' $(EQUATIONS) >> target/equations/crates.txt
+	echo 'entries: definition primes' >> target/equations/crates.txt
+	$(DEFINITIONS) crates/definition/specs target/equations/crates $(SEED)
+	cd target/equations && rt check $(EQUATIONS) entries
 
 # wrong definitions, which those equations must refuse
 wrong-definitions: definitions

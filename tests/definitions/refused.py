@@ -1,6 +1,7 @@
 #!/usr/bin/env python3
 """Tries wrong definitions: each edit of tests/definitions/must-fail is made in a copy of the definitions, and the equations with the
-second implementation must refuse it. A wrong definition that is refused by itself shows nothing, so it must still be admitted.
+second implementation, those of the crate that its last line names, must refuse it. A wrong definition that is refused by itself shows
+nothing, so it must still be admitted.
 
 Usage: refused.py EQUATIONS, with the repository of the definitions and the equations that 'make definitions' wrote.
 """
@@ -15,15 +16,15 @@ EDITS = pathlib.Path(__file__).parent / "must-fail"
 
 
 def check(room, crate):
-    """Whether the prover admits the crate, and the first error that it prints."""
+    """The prover's verdict on the crate, 0 where it admits it and 1 where it refuses it, and the first error that it prints."""
     done = subprocess.run(["rt", "check", crate], cwd=room, capture_output=True, text=True)
     errors = [line for line in (done.stdout + done.stderr).splitlines() if ": error: " in line]
-    return done.returncode == 0, errors[0].split(": error: ")[1][:120] if errors else ""
+    return done.returncode, errors[0].split(": error: ")[1][:120] if errors else ""
 
 
 def refused(equations, edit):
     """Makes the edit in a copy and says what refused it; None where nothing did."""
-    name, old, new = (line.split(": ", 1)[1] for line in edit.read_text(encoding="utf-8").splitlines())
+    name, old, new, crate = (line.split(": ", 1)[1] for line in edit.read_text(encoding="utf-8").splitlines())
     room = equations.with_name("refused") / edit.stem
     shutil.rmtree(room, ignore_errors=True)
     shutil.copytree(equations, room, ignore=shutil.ignore_patterns("target"))
@@ -32,10 +33,12 @@ def refused(equations, edit):
     if text.count(old) != 1:
         raise ValueError(f"its old text stands {text.count(old)} times in {name}")
     file.write_text(text.replace(old, new), encoding="utf-8")
-    if not check(room, "definition")[0]:
+    if check(room, "definition")[0] != 0:
         raise ValueError("the definition is not admitted, so the edit shows nothing")
-    admitted, error = check(room, "equations")
-    return None if admitted else error
+    verdict, error = check(room, crate)
+    if verdict > 1 or verdict == 1 and not error:
+        raise ValueError("the prover could not tell")
+    return error if verdict == 1 else None
 
 
 def tried(equations, edit):

@@ -2,7 +2,7 @@
 
 use crate::plain::random::Random;
 use crate::plain::{
-    chain::Chain, job, primes, refusals, render, reversion, substitution, taylor, weights,
+    chain::Chain, primes, refusals, render, reversion, substitution, taylor, weights,
 };
 
 pub const PRIMES: [u64; 5] = [2, 3, 5, 7, 11];
@@ -24,7 +24,6 @@ pub fn all(random: &mut Random) -> Vec<String> {
         equations.extend(numbers(random));
         equations.push(late(random));
         equations.push(text(random));
-        equations.push(file(random));
     }
     equations.extend(
         (0..120).map(|p| format!("isPrime {p} ≡ mathlib.Core.Bool.{}", primes::is_prime(p))),
@@ -54,7 +53,7 @@ fn composition(random: &mut Random) -> Vec<String> {
     ]
 }
 
-/// g(h) is x for the h of the second implementation; where there is none, the number is 9.
+/// g(h) and h(g) are x for the h of the second implementation; where there is none, the number is 9.
 fn reverse(random: &mut Random) -> Vec<String> {
     let (p, n, count) = (random.pick(&PRIMES), random.count(1, 4), random.count(0, 4));
     let mut g = random.list(p, count);
@@ -65,8 +64,9 @@ fn reverse(random: &mut Random) -> Vec<String> {
     let number = refusals::reverse(p, n as u64, &g, n, work as usize);
     let mut equations = vec![format!("reverseRefusal {p} {n} {} {n} {work} ≡ {number}", list(&g))];
     if number == 0 {
-        let h = reversion::reverse(p, &g, n);
-        equations.push(format!("composed {p} {n} {} {} ≡ identity {n}", list(&g), list(&h)));
+        let (h, g) = (list(&reversion::reverse(p, &g, n)), list(&g));
+        equations.push(format!("composed {p} {n} {g} {h} ≡ identity {n}"));
+        equations.push(format!("composed {p} {n} {h} {g} ≡ identity {n}"));
     }
     equations
 }
@@ -129,26 +129,4 @@ fn text(random: &mut Random) -> String {
     let coefficients = random.buffer(count);
     let bytes = render::text(number, n, weight, &coefficients);
     format!("rendered {number} {n} {weight} {} ≡ {}", list(&coefficients), list(&bytes))
-}
-
-/// A job file, whole, cut anywhere, cut within its last number, or with another number in its header,
-/// as a count of 65, which is too large and leaves the list past the end.
-fn file(random: &mut Random) -> String {
-    let p = random.pick(&PRIMES);
-    let (outer, inner) = (random.count(0, 3), random.count(0, 3));
-    let (f, g) = (random.list(p, outer), random.list(p, inner));
-    let counts = [f.len() as u32, 28, g.len() as u32, 28 + 4 * f.len() as u32];
-    let header = [1 + random.below(4) as u32, p as u32, 1 + random.below(3) as u32];
-    let words = header.iter().chain(&counts).chain(&f).chain(&g);
-    let mut bytes: Vec<u8> = words.flat_map(|word| word.to_le_bytes()).collect();
-    match random.below(4) {
-        0 => bytes.truncate(random.count(0, bytes.len())),
-        1 => bytes.truncate(bytes.len() - random.count(1, 4)),
-        2 => {
-            let any = random.below(80) as u8;
-            bytes[4 * random.count(2, 6)] = random.pick(&[any, 27, 64, 65]);
-        }
-        _ => {}
-    }
-    format!("jobText {} ≡ {}", list(&bytes), list(&job::run(&bytes)))
 }

@@ -1,7 +1,7 @@
-//! Equations for the steps that the routes name, for the table of primes, and for what a call leaves in its buffers.
+//! Equations for the steps that the routes name, for the search for primes, and for the numbers of rendering.
 
 use crate::plain::random::Random;
-use crate::plain::{calls, field, primes, products, refusals, render, routes};
+use crate::plain::{field, primes, products, refusals, render, routes};
 use crate::rows::{list, PRIMES};
 
 pub fn all(random: &mut Random) -> Vec<String> {
@@ -14,9 +14,6 @@ pub fn all(random: &mut Random) -> Vec<String> {
         equations.push(division(random));
         equations.push(below(random));
         equations.push(rendering(random));
-    }
-    for _ in 0..6 {
-        equations.extend(buffers(random));
     }
     equations
 }
@@ -122,22 +119,4 @@ fn rendering(random: &mut Random) -> String {
     let text = (bytes + random.count(0, 2)).saturating_sub(1);
     let refusal = refusals::render(number, n, 5, &coefficients, text);
     format!("renderRefusal {number} {n} {places} {bytes} {text} ≡ {refusal}")
-}
-
-/// Output and work after a call on dirty buffers, accepted or refused.
-fn buffers(random: &mut Random) -> Vec<String> {
-    let (route, p, n) = (random.below(6), random.pick(&PRIMES), 1);
-    let (f, g) = (random.list(p, 2), random.list(p, 2));
-    let places = refusals::work_places(n, f.len()) as usize + random.count(0, 3) - 1;
-    let (before, work_before) = (random.buffer(1), random.buffer(places));
-    let (mut out, mut work) = (before.clone(), work_before.clone());
-    let answer = calls::compose(route, p, n, &f, &g, &mut out, &mut work);
-    let (fs, gs) = (list(&f), list(&g));
-    let number = format!("(composeRefusal {route} {p} {n} {fs} {gs} 1 {places})");
-    let old = list(&work_before);
-    vec![
-        format!("kept {number} (composed {p} {n} {fs} {gs}) {} ≡ {}", list(&before), list(&out)),
-        format!("kept {number} (cleared (composeWork {n} 2) {old}) {old} ≡ {}", list(&work)),
-        format!("answered {number} (weight {route} {p} {n} 2) ≡ {}", answer.weight),
-    ]
 }

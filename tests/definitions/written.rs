@@ -1,8 +1,45 @@
-//! Writes the crate: the `use` and `unfolding` lines name every definition, and each equation is a theorem proved by computing.
+//! Writes the crates of laws. The `use` lines name every definition. Each theorem lists all that it unfolds, which costs more time than most
+//! laws, so a theorem is a tuple of laws.
 
 use std::fs;
 use std::io::{Error, Result};
 use std::path::Path;
+
+/// The most laws of one theorem.
+const GROUP: usize = 20;
+
+const HEAD: &str = "\
+use lib.ListN.{replicate}
+use mathlib.Core.Bool.{true, false}
+use mathlib.Core.List.{List, [], _∷_, _++_}
+use mathlib.Core.Path.{_≡_, refl}
+use Rattle.definition.specs.Calls.{Compose, Cycle, Job, Open, Render, Table}
+";
+
+/// What a law states, its proof, and the definitions that it does not unfold.
+pub struct Law {
+    pub statement: String,
+    pub proof: String,
+    pub shut: &'static [&'static str],
+}
+
+impl Law {
+    /// An equation whose two sides the prover computes.
+    pub fn computed(statement: String) -> Law {
+        Law::over(&[], statement)
+    }
+
+    /// The same with some definitions left shut.
+    pub fn over(shut: &'static [&'static str], statement: String) -> Law {
+        Law { statement, proof: String::from("refl"), shut }
+    }
+
+    /// A promise all of whose parts are such equations.
+    pub fn promised(statement: String, parts: &[&str]) -> Law {
+        let proofs: Vec<String> = parts.iter().map(|part| format!("{part} = refl")).collect();
+        Law { statement, proof: format!("record {{ {} }}", proofs.join("; ")), shut: &[] }
+    }
+}
 
 /// The names that a file of definitions lets others unfold.
 fn unfoldable(text: &str) -> Vec<String> {
@@ -26,23 +63,39 @@ fn modules(definitions: &str) -> Result<Vec<(String, Vec<String>)>> {
     Ok(found)
 }
 
-pub fn write(definitions: &str, target: &str, equations: &[String]) -> Result<()> {
-    let modules = modules(definitions)?;
-    let mut text =
-        String::from("use mathlib.Core.List.{List, [], _∷_}\nuse mathlib.Core.Path.{_≡_, refl}\n");
-    for (module, names) in &modules {
-        text += &format!("use Rattle.definition.specs.{module}.{{{}}}\n", names.join(", "));
+/// A theorem of some laws with one list of what they leave shut.
+fn theorem(place: usize, laws: &[Law], names: &[&str]) -> String {
+    let part = |law: &Law| format!("({})", law.statement);
+    let statements: Vec<String> = laws.iter().map(part).collect();
+    let proofs: Vec<&str> = laws.iter().map(|law| law.proof.as_str()).collect();
+    let open = names.iter().filter(|name| !laws[0].shut.contains(name));
+    let opened: Vec<&str> = open.copied().collect();
+    format!(
+        "\nlaws{place} : {}\nunfolding {}\nlaws{place} = ({})\n",
+        statements.join(" × "),
+        opened.join(" "),
+        proofs.join(", ")
+    )
+}
+
+/// The text of a module of laws over the definitions, with what they unfold besides.
+fn theorems(modules: &[(String, Vec<String>)], besides: &[&str], laws: &[Law]) -> String {
+    let mut text = String::from(HEAD);
+    let mut names = besides.to_vec();
+    for (module, inside) in modules {
+        text += &format!("use Rattle.definition.specs.{module}.{{{}}}\n", inside.join(", "));
+        names.extend(inside.iter().map(String::as_str));
     }
-    let opened: Vec<&str> =
-        modules.iter().flat_map(|(_, names)| names.iter().map(String::as_str)).collect();
-    let unfolding = format!(
-        "unfolding {} lib.Count.ones lib.Count.onesIn lib.Count.leadingZeros",
-        opened.join(" ")
-    );
-    for (place, equation) in equations.iter().enumerate() {
-        text += &format!("\nlaw{place} : {equation}\n{unfolding}\nlaw{place} = refl\n");
+    let alike = laws.chunk_by(|law, next| law.shut == next.shut);
+    for (place, group) in alike.flat_map(|laws| laws.chunks(GROUP)).enumerate() {
+        text += &theorem(place, group, &names);
     }
-    let folder = Path::new(target);
+    text
+}
+
+/// A crate of laws over the definitions of a folder.
+pub fn write(folder: &Path, definitions: &str, besides: &[&str], laws: &[Law]) -> Result<()> {
+    let text = theorems(&modules(definitions)?, besides, laws);
     fs::create_dir_all(folder.join("src"))?;
     fs::create_dir_all(folder.join("specs"))?;
     fs::write(

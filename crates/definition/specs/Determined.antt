@@ -1,12 +1,21 @@
 -- What a call promises leaves nothing free: any two answers to one input that both keep the promise are the same answer. So 01's sentence holds,
--- that the end content of every buffer is determined for every input, and a promise that says less is refused here. Assumes nothing.
+-- that the end content of every buffer is determined for every input, and a promise that says less is refused here. Reversion's is no
+-- equation with a definition: what it says of the series is written out too. Assumes nothing.
 --
 --   compose-determined, reverse-determined, open-determined, cycle-determined, table-determined, render-determined, job-determined
+--   reverse-accepted   number 0: the output is a list h of n places below p without constant term, g(h) is x, and h(g) is x too
+--   reverse-none       number 9: no list h of n places below p without constant term has g(h) = x
 use Prim.Native.Nat.{ℕ, zero, suc}
+use lib.ListN.{length}
+use mathlib.Core.Bool.{false}
 use mathlib.Core.List.{List}
 use mathlib.Core.Path.{_≡_, refl, sym, _∙_}
 use native.Mathlib.Omega.{arith}
 use Rattle.definition.specs.Calls.{Compose, Cycle, Job, Open, Render, Reverse, Table}
+use Rattle.definition.specs.Lists.{coefficient}
+use Rattle.definition.specs.Refusal.{exceeds}
+use Rattle.definition.specs.Reversion.{identity}
+use Rattle.definition.specs.Substitution.{composed}
 
 pub compose-determined : {route p n number₁ number₂ weight₁ weight₂ : ℕ} {f g out out₁ out₂ work work₁ work₂ : List ℕ}
     → Compose route p n f g out out₁ work work₁ number₁ weight₁
@@ -29,6 +38,18 @@ reverse-determined {number₁ = number₁} {number₂ = number₂} {out₁ = out
     series : (r : ℕ) → number₁ ≡ r → out₁ ≡ out₂
     series zero accepted = b .only (sym e ∙ accepted) out₁ (a .reverses accepted)
     series (suc r) refused = a .refused (λ z. omega arith) ∙ sym (b .refused (λ z. omega (arith, e)))
+
+pub reverse-accepted : {p n weight′ : ℕ} {g out out′ work work′ : List ℕ} → Reverse p n g out out′ work work′ 0 weight′
+    → (length out′ ≡ n) × (exceeds p out′ ≡ false) × (coefficient out′ 0 ≡ 0)
+    × (composed p n g out′ ≡ identity n) × (composed p n out′ g ≡ identity n)
+reverse-accepted a =
+    let h = a .reverses refl in
+    (h .places, h .below, h .no-constant, h .reverses, a .symmetric refl)
+
+pub reverse-none : {p n weight′ : ℕ} {g out out′ work work′ : List ℕ} → Reverse p n g out out′ work work′ 9 weight′
+    → (h : List ℕ) → length h ≡ n → exceeds p h ≡ false → coefficient h 0 ≡ 0 → composed p n g h ≡ identity n → ⊥
+reverse-none a h places below no-constant reverses =
+    a .none refl h (record { places = places; below = below; no-constant = no-constant; reverses = reverses })
 
 pub open-determined : {p n number₁ number₂ weight₁ weight₂ p₁ p₂ n₁ n₂ done₁ done₂ : ℕ} {s s₁ s₂ : List ℕ}
     → Open p n s s₁ number₁ weight₁ p₁ n₁ done₁

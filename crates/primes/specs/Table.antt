@@ -4,6 +4,7 @@
 --   table           the sixteen primes
 --   table-written   they are the table of the definitions
 --   table-rule      the rule of the table
+--   table-only      a list that keeps the rule is this one
 -- Assumes nothing.
 use Prim.Native.Nat.{ℕ, suc, _-_, _*_, _<_, _≤_}
 use lib.Dec.{lit≤}
@@ -13,6 +14,7 @@ use mathlib.Core.List.{List, [], _∷_}
 use mathlib.Core.Path.{_≡_, refl}
 use native.Mathlib.Omega.{arith}
 use Rattle.definition.specs.PrimeTable.{TableRule, tableBound, primeTable}
+use Rattle.definition.specs.TableDetermined.{table-rule-determined}
 use Rattle.primes.specs.Sieve.{Next, composites, oddTrial, quick, reach, sieved, sieved-below, sieved-next, trial}
 
 unfoldable pub table : List ℕ
@@ -66,3 +68,6 @@ written =
 
 pub table-rule : TableRule primeTable
 table-rule = rw table-written written
+
+pub table-only : (t : List ℕ) → TableRule t → t ≡ table
+table-only t rule = table-rule-determined rule written

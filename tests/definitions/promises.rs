@@ -1,0 +1,115 @@
+//! What each call promises, of the second implementation's own answers on dirty buffers: accepted calls and refused ones. Reversion is not
+//! among them, since its promise is not made of equations.
+
+use crate::files;
+use crate::plain::random::Random;
+use crate::plain::{calls, chain::Chain, job, refusals, render};
+use crate::rows::{list, PRIMES};
+use crate::written::Law;
+
+pub fn all(random: &mut Random) -> Vec<Law> {
+    let mut laws = Vec::new();
+    for route in 0..6 {
+        laws.push(compose(random, route, 1 + route as usize % 2));
+    }
+    laws.push(compose(random, 2, 0));
+    for fault in 0..4 {
+        laws.extend((0..4).map(|_| opening(random, fault)));
+        laws.extend((0..4).map(|_| rendering(random, fault)));
+    }
+    for done in [0, 1, 62, 63, 64, 65] {
+        laws.push(cycle(random, done));
+    }
+    for index in 16..20 {
+        laws.push(table(index));
+    }
+    laws.extend((0..8).map(|_| answer(random)));
+    laws
+}
+
+/// Routes 0 and 5 are refused. The work lent is one place short for 0, exact for 1, one place more for 2.
+fn compose(random: &mut Random, route: u64, lent: usize) -> Law {
+    let (p, n) = (random.pick(&PRIMES), 1);
+    let (f, g) = (random.list(p, 2), random.list(p, 2));
+    let places = refusals::work_places(n, f.len()) as usize + lent - 1;
+    let (before, work_before) = (random.buffer(1), random.buffer(places));
+    let (mut out, mut work) = (before.clone(), work_before.clone());
+    let answer = calls::compose(route, p, n, &f, &g, &mut out, &mut work);
+    let lists = [&f, &g, &before, &out, &work_before, &work].map(|places| list(places)).join(" ");
+    Law::promised(
+        format!("Compose {route} {p} {n} {lists} {} {}", answer.number, answer.weight),
+        &["refusal", "weighs", "output", "clears"],
+    )
+}
+
+/// An opening: in order, or with a modulus that is not prime, an order of 0, or a place too many.
+fn opening(random: &mut Random, fault: u64) -> Law {
+    let (prime, order) = (random.pick(&PRIMES), 1 + random.below(3));
+    let p = if fault == 1 { prime * prime } else { prime };
+    let n = if fault == 2 { 0 } else { order };
+    let before = random.buffer((n + u64::from(fault == 3)) as usize);
+    let mut series = before.clone();
+    let (chain, answer) = Chain::open(p, n, &mut series);
+    let after = format!("{} {} {}", chain.modulus, chain.order, chain.done);
+    let buffers = format!("{} {}", list(&before), list(&series));
+    Law::promised(
+        format!("Open {p} {n} {buffers} {} {} {after}", answer.number, answer.weight),
+        &["refusal", "weighs", "modulus", "order", "none-done", "running"],
+    )
+}
+
+/// A cycle of a chain with so many done.
+fn cycle(random: &mut Random, done: u64) -> Law {
+    let (route, modulus, n) = (random.route(), random.pick(&PRIMES), random.count(1, 2));
+    let (mut c, mut before) = (random.list(modulus, 2), random.list(modulus, n));
+    c[0] = 0;
+    before[0] = 0;
+    let places = refusals::cycle_work_places(n as u64, c.len()) as usize + random.count(0, 1);
+    let work_before = random.buffer(places);
+    let (mut series, mut work) = (before.clone(), work_before.clone());
+    let chain = Chain { modulus, order: n as u64, done };
+    let (after, answer) = chain.cycle(route, &c, &mut series, &mut work);
+    let lists = [&c, &before, &series, &work_before, &work].map(|places| list(places)).join(" ");
+    let record = format!("{} {} {}", after.modulus, after.order, after.done);
+    Law::promised(
+        format!(
+            "Cycle {route} {modulus} {n} {done} {lists} {} {} {record}",
+            answer.number, answer.weight
+        ),
+        &["refusal", "weighs", "modulus", "order", "counts", "running", "clears"],
+    )
+}
+
+/// An index past the table.
+fn table(index: u64) -> Law {
+    let (number, prime) = calls::table(index);
+    Law::promised(format!("Table {index} {number} {prime}"), &["refusal", "entry"])
+}
+
+/// An answer or a refusal, rendered into a text buffer that is a place too short, exact, or longer.
+fn rendering(random: &mut Random, fault: u64) -> Law {
+    let (number, n) = (random.below(2) as u32 * 9, random.count(1, 3));
+    let (weight, coefficients) = (random.below(1000), random.list(7, n));
+    let bytes = render::text(number, n as u64, weight, &coefficients).len();
+    let before: Vec<u8> = (0..bytes + fault as usize - 1).map(|_| random.next() as u8).collect();
+    let mut text = before.clone();
+    let (refusal, count) = render::render(number, n as u64, weight, &coefficients, &mut text);
+    let lists = format!("{} {} {}", list(&coefficients), list(&before), list(&text));
+    Law::promised(
+        format!("Render {number} {n} {weight} {lists} {refusal} {count}"),
+        &["refusal", "counts", "writes"],
+    )
+}
+
+/// The answer to a job file, in a text buffer with places to spare.
+fn answer(random: &mut Random) -> Law {
+    let file = files::bytes(&files::numbers(random));
+    let bytes = job::run(&file);
+    let spare: Vec<u8> = (0..random.count(0, 3)).map(|_| random.next() as u8).collect();
+    let before: Vec<u8> = bytes.iter().map(|_| random.next() as u8).chain(spare.clone()).collect();
+    let text = [&bytes[..], &spare].concat();
+    Law::promised(
+        format!("Job {} {} {} {}", list(&file), list(&before), list(&text), bytes.len()),
+        &["counts", "writes"],
+    )
+}
