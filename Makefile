@@ -56,7 +56,7 @@ trace: tools $(DEFINITIONS)
 	rm -rf target/trace
 	mkdir -p target/trace
 	$(DEFINITIONS) crates/definition/specs target/trace $(SEED)
-	python3 -B tests/trace/names.py target/trace/specs/Equations.antt
+	python3 -B tests/trace/names.py target/trace
 	python3 -B tests/trace/contracts.py
 
 # from nothing: every crate is proved, every must-fail edit refused, every program run on its stored input

@@ -8,7 +8,7 @@ its tests holds as far as it can be looked up.
 `crate!edit`              the must-fail edit of that name, of a crate or, as `definitions!edit` and `weights!edit`, of tests/
 `second: group`           a group of the second implementation's check of itself; `linked: group` one of tests/linked
 
-Usage: names.py EQUATIONS, with the file of the equations that tests/definitions writes.
+Usage: names.py EQUATIONS, with the folder of the crates of equations that tests/definitions writes.
 """
 
 import pathlib

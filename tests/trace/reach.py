@@ -1,7 +1,7 @@
 """What the tests reach: the definitions that the equations compute, and the functions that the linked libraries and the job program call. A name
 counts as reached if it is used there or by something that is; this finds a row that names a test of something else, and no more.
 
-  read              reads the file of the equations
+  read              reads the crates of equations in a folder
   out_of_equations  the definitions of a row that no equation computes
   out_of_library    whether a row names functions and none of them is called
 """
@@ -52,7 +52,7 @@ def closed(first, uses):
 
 def read(equations):
     uses = definitions()
-    laws = re.findall(r"^law\d+ : (.*)$", equations.read_text(), re.M)
+    laws = [law for file in equations.glob("*/specs/*.antt") for law in re.findall(r"^laws\d+ : (.*)$", file.read_text(), re.M)]
     named = set(re.findall(WORD, " ".join(laws))) & uses.keys()
     reached = closed(named, lambda name: uses[name] & uses.keys())
     # a promise is no function: it is reached by what it is made of
