@@ -96,12 +96,14 @@ static int64_t best_halvings(size_t power, size_t cycles)
 
 static void refuse(size_t power, int64_t halvings, const struct bound *bound, const struct bound *product)
 {
-    int large = bound->exponent == TOO_LARGE;
-    fprintf(stderr,
-            "joiner: the table may not fit: the least bound of the coefficient of x^%zu, the value at x = 2^-%" PRId64 " times 2^%" PRId64
-            ", has %s%" PRId64 " bits and is not below the product of the sixteen primes, which has %" PRId64
-            " bits: take fewer cycles or a lower order\n",
-            power, halvings, halvings * (int64_t)power, large ? "more than " : "", large ? 32 * MOST_EXPONENT : bits(bound), bits(product));
+    if (bound->exponent == TOO_LARGE)
+        fprintf(stderr, "joiner: the table may not fit: every bound of the coefficient of x^%zu has more than %" PRId64 " bits", power,
+                16 * MOST_EXPONENT);
+    else
+        fprintf(stderr, "joiner: the table may not fit: the least bound of the coefficient of x^%zu, the value at x = 2^-%" PRId64
+                " times 2^%" PRId64 ", has %" PRId64 " bits", power, halvings, halvings * (int64_t)power, bits(bound));
+    fprintf(stderr, " and is not below the product of the sixteen primes, which has %" PRId64 " bits: take fewer cycles or a lower order\n",
+            bits(product));
     exit(1);
 }
 
