@@ -36,7 +36,9 @@ static const char use[] = "usage: joiner ORDER CYCLES LIST...\n"
                           "\n"
                           "Composes a series over CYCLES cycles and prints its coefficients below x^ORDER, one a line, that of power 0\n"
                           "first. ORDER is from 1 to 4096, CYCLES from 0 to 64. A LIST is a cycle series, such as 0,1,1: the whole\n"
-                          "numbers that stand before 1, x, x^2. With several lists the cycles take them in turn.\n"
+                          "numbers that stand before 1, x, x^2. With several lists the cycles take them in turn. A table is refused\n"
+                          "unless its numbers are sure to be below the product of the sixteen primes, which has 496 bits.\n"
+                          "\n"
                           "With no arguments it is joiner 300 9 0,1,1 0,1,2.\n";
 
 static void stop(const char *what, const char *words)
@@ -94,6 +96,7 @@ static int64_t best_halvings(size_t power, size_t cycles)
     return least;
 }
 
+/* If the bound at the least r is too large, F has more than 16 MOST_EXPONENT bits there, and no fewer at any other r. */
 static void refuse(size_t power, int64_t halvings, const struct bound *bound, const struct bound *product)
 {
     if (bound->exponent == TOO_LARGE)
