@@ -15,6 +15,7 @@ BENCH := target/tests/bench
 EQUATIONS := rows steps files promises limits
 WRITTEN_TABLE := definition algebra field primes
 C_INTERFACE := target/tests/c_interface
+ROUNDING := target/tests/rounding
 EXAMPLES := target/examples
 CRATES := crates.txt $(shell find crates -type f)
 PLAIN := $(wildcard tests/second/*.rs tests/second/*/*.rs)
@@ -90,11 +91,19 @@ c-interface: library
 	python3 -B tests/c/shown.py docs/C-INTERFACE.md examples/compose.c
 	test "$$($(EXAMPLES)/compose | tr '\n' ' ')" = 'ok 4 8 1 2 5 6 2147483647 '
 
-# the example that joins residues into whole numbers, held against exact integers
+# the example that joins residues into whole numbers, held against exact integers: its tables, its bounds, its writing, its rounding; then
+# the line of its page that compiles it
 joiner: library
-	mkdir -p $(EXAMPLES)
+	mkdir -p $(EXAMPLES) $(dir $(ROUNDING))
 	$(CC99) -o $(EXAMPLES)/joiner examples/joiner.c $(ARCHIVE)
 	python3 -B tests/joiner/whole_numbers.py $(EXAMPLES)/joiner
+	python3 -B tests/joiner/bounds.py $(EXAMPLES)/joiner $(SEED)
+	python3 -B tests/joiner/writing.py $(EXAMPLES)/joiner
+	$(CC99) -o $(ROUNDING) tests/joiner/numbers.c
+	python3 -B tests/joiner/rounding.py $(ROUNDING) $(SEED)
+	rm -f target/joiner
+	sed -n '/gcc .*examples\/joiner\.c/p' examples/README.md | sh -ex
+	target/joiner 5 2 0,1,1
 
 bench: library $(PLAIN)
 	mkdir -p $(dir $(BENCH))

@@ -7,23 +7,21 @@
  * A list is a cycle series, such as 0,1,1: the whole numbers that stand before 1, x, x^2. With several lists the cycles take them in turn.
  * Printed is one coefficient a line, that of power 0 first. With no arguments it is joiner 300 9 0,1,1 0,1,2.
  *
- * The series have no negative coefficient, so a coefficient is at most the sum of all of them, which is the value at x = 1. The program
- * works that out exactly, and refuses if it is not below the product of the sixteen primes.
+ * Sixteen residues determine a number below the product of the primes, so each printed coefficient has to be below it. The composed series
+ * F has no negative coefficient: that of x^k is at most F(r) / r^k for every r above 0, and if r is at most 1, those below x^ORDER are at
+ * most F(r) / r^(ORDER - 1). The program works out this bound for powers of two, rounding upwards only, and refuses if none that it finds is
+ * below the product.
  */
+#include "joiner_numbers.h"
 #include "ruhitapo.h"
 
 #include <errno.h>
 #include <inttypes.h>
 #include <stdio.h>
-#include <stdlib.h>
-#include <string.h>
 
-#define WORDS 16 /* 512 bits: the product of the sixteen primes has 496 */
 #define MOST_LISTS 64
-
-struct whole {
-    uint32_t word[WORDS]; /* the least significant first */
-};
+#define MOST_CYCLES 64
+#define MOST_HALVINGS ((int64_t)1 << 24) /* the least r is 1 halved as often */
 
 struct list {
     uint32_t coefficient[RUHITAPO_LONGEST_LIST];
@@ -33,6 +31,15 @@ struct list {
 static struct list lists[MOST_LISTS];
 static size_t list_count;
 static uint32_t prime[RUHITAPO_PRIMES];
+
+static const char use[] = "usage: joiner ORDER CYCLES LIST...\n"
+                          "\n"
+                          "Composes a series over CYCLES cycles and prints its coefficients below x^ORDER, one a line, that of power 0\n"
+                          "first. ORDER is from 1 to 4096, CYCLES from 0 to 64. A LIST is a cycle series, such as 0,1,1: the whole\n"
+                          "numbers that stand before 1, x, x^2. With several lists the cycles take them in turn. A table is refused\n"
+                          "unless its numbers are sure to be below the product of the sixteen primes, which has 496 bits.\n"
+                          "\n"
+                          "With no arguments it is joiner 300 9 0,1,1 0,1,2.\n";
 
 static void stop(const char *what, const char *words)
 {
@@ -49,68 +56,101 @@ static void *memory(size_t bytes)
     return found;
 }
 
-/* a = a * factor + more; whether it fits. */
-static int multiply_small(struct whole *a, uint32_t factor, uint32_t more)
+/* Writes all that the program prints, once. The stream has no buffer, so that after a failure no later part of the text follows. */
+static void write_out(const char *text, size_t bytes)
 {
-    uint64_t carry = more;
-    size_t i;
-    for (i = 0; i < WORDS; i++) {
-        carry += (uint64_t)a->word[i] * factor;
-        a->word[i] = (uint32_t)carry;
-        carry >>= 32;
-    }
-    return carry == 0;
+    errno = 0;
+    if (setvbuf(stdout, NULL, _IONBF, 0) != 0 || fwrite(text, 1, bytes, stdout) != bytes || fclose(stdout) != 0)
+        stop("the output could not be written whole: ", strerror(errno));
 }
 
-/* a = a * b + more; whether it fits. */
-static int multiply(struct whole *a, const struct whole *b, uint32_t more)
+/* At least F(r) / r^power, where r is 1 halved so often. No number is negative, so what each step raises makes no later one smaller. */
+static struct bound bound_at(int64_t halvings, size_t power, size_t cycles)
 {
-    struct whole sum = {{0}};
-    size_t i, j;
-    int fits = 1;
-    sum.word[0] = more;
-    for (i = 0; i < WORDS; i++) {
-        uint64_t carry = 0;
-        for (j = 0; i + j < WORDS; j++) {
-            carry += sum.word[i + j] + (uint64_t)a->word[i] * b->word[j];
-            sum.word[i + j] = (uint32_t)carry;
-            carry >>= 32;
+    struct bound value = power_of_two(-halvings), factor = power_of_two(halvings * (int64_t)power);
+    size_t i, k;
+    for (i = 0; i < cycles; i++) {
+        const struct list *list = lists + i % list_count;
+        struct bound next = leading(NULL, 0, 0);
+        for (k = list->count; k-- > 0;) {
+            struct bound term = multiply(&next, &value), coefficient = leading(&list->coefficient[k], 1, 0);
+            next = add(&term, &coefficient);
         }
-        fits = fits && carry == 0;
-        for (; j < WORDS; j++)
-            fits = fits && (a->word[i] == 0 || b->word[j] == 0);
+        value = next;
     }
-    *a = sum;
-    return fits;
+    return multiply(&value, &factor);
 }
 
-static int below(const struct whole *a, const struct whole *b)
+/* The halvings with the least bound: its logarithm is convex in them, so it falls up to there and does not fall again. */
+static int64_t best_halvings(size_t power, size_t cycles)
 {
+    int64_t least = 0, most = MOST_HALVINGS;
+    while (least < most) {
+        int64_t middle = (least + most) / 2;
+        struct bound here = bound_at(middle, power, cycles), next = bound_at(middle + 1, power, cycles);
+        if (here.exponent < TOO_LARGE && below(&here, &next))
+            most = middle;
+        else
+            least = middle + 1;
+    }
+    return least;
+}
+
+/* If the bound at the least r is too large, F has more than 16 MOST_EXPONENT bits there, and no fewer at any other r. */
+static void refuse(size_t power, int64_t halvings, const struct bound *bound, const struct bound *product)
+{
+    if (bound->exponent == TOO_LARGE)
+        fprintf(stderr, "joiner: the table may not fit: every bound of the coefficient of x^%zu has more than %" PRId64 " bits", power,
+                16 * MOST_EXPONENT);
+    else
+        fprintf(stderr, "joiner: the table may not fit: the least bound of the coefficient of x^%zu, the value at x = 2^-%" PRId64
+                " times 2^%" PRId64 ", has %" PRId64 " bits", power, halvings, halvings * (int64_t)power, bits(bound));
+    fprintf(stderr, " and is not below the product of the sixteen primes, which has %" PRId64 " bits: take fewer cycles or a lower order\n",
+            bits(product));
+    exit(1);
+}
+
+/* Refuses if no bound is below the product of the primes. With r = 1 a bound below it is exact, the sum of all coefficients. */
+static void see_that_it_fits(size_t n, size_t cycles)
+{
+    struct bound product = power_of_two(0), bound = bound_at(0, n - 1, cycles);
+    int64_t halvings;
     size_t i;
-    for (i = WORDS; i-- > 0;)
-        if (a->word[i] != b->word[i])
-            return a->word[i] < b->word[i];
-    return 0;
+    for (i = 0; i < RUHITAPO_PRIMES; i++) {
+        struct bound factor = leading(&prime[i], 1, 0);
+        product = multiply(&product, &factor);
+    }
+    if (below(&bound, &product))
+        return;
+    halvings = best_halvings(n - 1, cycles);
+    bound = bound_at(halvings, n - 1, cycles);
+    if (!below(&bound, &product))
+        refuse(n - 1, halvings, &bound, &product);
 }
 
-static void print(struct whole a)
+/* The residues modulo p, in `out`: the running series begins as x, and each cycle composes its list with it. */
+static void compose_cycles(uint32_t p, size_t n, size_t cycles, uint32_t *out)
 {
-    char digits[10 * WORDS + 1];
-    size_t at = sizeof digits - 1, i;
-    int rest;
-    digits[at] = '\0';
-    do {
-        uint64_t remainder = 0;
-        rest = 0;
-        for (i = WORDS; i-- > 0;) {
-            remainder = remainder << 32 | a.word[i];
-            a.word[i] = (uint32_t)(remainder / 10);
-            remainder %= 10;
-            rest = rest || a.word[i] != 0;
+    size_t places = RUHITAPO_WORK_PLACES(n, RUHITAPO_LONGEST_LIST), i, k;
+    uint32_t *work = memory(places * sizeof *work), *running = memory(n * sizeof *running);
+    uint32_t *reduced = memory(RUHITAPO_LONGEST_LIST * sizeof *reduced);
+    for (k = 0; k < n; k++)
+        out[k] = k == 1;
+    for (i = 0; i < cycles; i++) {
+        const struct list *list = lists + i % list_count;
+        ruhitapo_answer answer;
+        for (k = 0; k < list->count; k++)
+            reduced[k] = list->coefficient[k] % p;
+        memcpy(running, out, n * sizeof *running);
+        answer = ruhitapo_compose(RUHITAPO_KINOSHITA_LI, p, n, reduced, list->count, running, n, out, n, work, places);
+        if (answer.number != RUHITAPO_ACCEPTED) {
+            fprintf(stderr, "joiner: ruhitapo_compose returned %" PRIu32 "\n", answer.number);
+            exit(1);
         }
-        digits[--at] = (char)('0' + remainder);
-    } while (rest);
-    puts(digits + at);
+    }
+    free(reduced);
+    free(running);
+    free(work);
 }
 
 static uint64_t power(uint64_t a, uint64_t exponent, uint64_t p)
@@ -143,48 +183,22 @@ static struct whole join(const uint32_t residue[RUHITAPO_PRIMES])
     return value;
 }
 
-/* Refuses if the value at x = 1 is not below the product of the primes. */
-static void see_that_it_fits(size_t cycles)
+/* The residues of all primes, and then the coefficients, joined. */
+static void print_table(size_t n, size_t cycles)
 {
-    struct whole value = {{1}}, product = {{1}};
-    int fits = 1;
-    size_t i, k;
+    uint32_t *residues = memory(RUHITAPO_PRIMES * n * sizeof *residues), residue[RUHITAPO_PRIMES];
+    char *text = memory(n * LINE_BYTES);
+    size_t bytes = 0, i, k;
     for (i = 0; i < RUHITAPO_PRIMES; i++)
-        multiply_small(&product, prime[i], 0);
-    for (i = 0; i < cycles && fits; i++) {
-        const struct list *list = lists + i % list_count;
-        struct whole next = {{0}};
-        for (k = list->count; k-- > 0;)
-            fits = multiply(&next, &value, list->coefficient[k]) && fits;
-        value = next;
+        compose_cycles(prime[i], n, cycles, residues + i * n);
+    for (k = 0; k < n; k++) {
+        for (i = 0; i < RUHITAPO_PRIMES; i++)
+            residue[i] = residues[i * n + k];
+        bytes += write_line(join(residue), text + bytes);
     }
-    if (!fits || !below(&value, &product))
-        stop("the sum of the coefficients is not below the product of the sixteen primes: take fewer cycles", "");
-}
-
-/* The residues modulo p, in `out`: the running series begins as x, and each cycle composes its list with it. */
-static void compose_cycles(uint32_t p, size_t n, size_t cycles, uint32_t *out)
-{
-    size_t places = RUHITAPO_WORK_PLACES(n, RUHITAPO_LONGEST_LIST), i, k;
-    uint32_t *work = memory(places * sizeof *work), *running = memory(n * sizeof *running);
-    uint32_t *reduced = memory(RUHITAPO_LONGEST_LIST * sizeof *reduced);
-    for (k = 0; k < n; k++)
-        out[k] = k == 1;
-    for (i = 0; i < cycles; i++) {
-        const struct list *list = lists + i % list_count;
-        ruhitapo_answer answer;
-        for (k = 0; k < list->count; k++)
-            reduced[k] = list->coefficient[k] % p;
-        memcpy(running, out, n * sizeof *running);
-        answer = ruhitapo_compose(RUHITAPO_KINOSHITA_LI, p, n, reduced, list->count, running, n, out, n, work, places);
-        if (answer.number != RUHITAPO_ACCEPTED) {
-            fprintf(stderr, "joiner: ruhitapo_compose returned %" PRIu32 "\n", answer.number);
-            exit(1);
-        }
-    }
-    free(reduced);
-    free(running);
-    free(work);
+    write_out(text, bytes);
+    free(text);
+    free(residues);
 }
 
 /* The whole number at the start of `words`, at most `most`; `end` is what follows it. */
@@ -219,7 +233,15 @@ static void read_list(const char *words)
     const char *at = words;
     if (list_count == MOST_LISTS)
         stop("more than 64 lists", "");
+    if (*words == '\0')
+        stop("a list is empty: the series zero is the list 0", "");
+    if (strpbrk(words, " \t\n") != NULL)
+        stop("a list has commas between its numbers and no spaces, as 0,1,1, and this has spaces: ", words);
     for (;;) {
+        if (*at == '\0')
+            stop("a list ends with a number, and this ends with a comma: ", words);
+        if (*at == ',')
+            stop("a list has a number before each comma, and this has not: ", words);
         if (list->count == RUHITAPO_LONGEST_LIST)
             stop("a list has more than 4096 places", "");
         list->coefficient[list->count++] = (uint32_t)number(at, UINT32_MAX, &at);
@@ -231,21 +253,6 @@ static void read_list(const char *words)
     list_count++;
 }
 
-/* The residues of all primes, and then the coefficients, joined. */
-static void print_table(size_t n, size_t cycles)
-{
-    uint32_t *residues = memory(RUHITAPO_PRIMES * n * sizeof *residues), residue[RUHITAPO_PRIMES];
-    size_t i, k;
-    for (i = 0; i < RUHITAPO_PRIMES; i++)
-        compose_cycles(prime[i], n, cycles, residues + i * n);
-    for (k = 0; k < n; k++) {
-        for (i = 0; i < RUHITAPO_PRIMES; i++)
-            residue[i] = residues[i * n + k];
-        print(join(residue));
-    }
-    free(residues);
-}
-
 int main(int count, char **arguments)
 {
     static char *usual[] = {"joiner", "300", "9", "0,1,1", "0,1,2"};
@@ -255,17 +262,19 @@ int main(int count, char **arguments)
         arguments = usual;
         count = sizeof usual / sizeof *usual;
     }
+    if (count == 2 && strcmp(arguments[1], "--help") == 0) {
+        write_out(use, sizeof use - 1);
+        return 0;
+    }
     if (count < 4)
-        stop("usage: joiner ORDER CYCLES LIST...", "");
+        stop("usage: joiner ORDER CYCLES LIST..., and joiner --help says more", "");
     n = count_from(arguments[1], 1, RUHITAPO_LARGEST_ORDER);
-    cycles = count_from(arguments[2], 0, 64);
+    cycles = count_from(arguments[2], 0, MOST_CYCLES);
     for (i = 3; i < count; i++)
         read_list(arguments[i]);
     for (i = 0; i < (int)RUHITAPO_PRIMES; i++)
         prime[i] = ruhitapo_prime((uint32_t)i).prime;
-    see_that_it_fits(cycles);
+    see_that_it_fits(n, cycles);
     print_table(n, cycles);
-    if (fflush(stdout) != 0)
-        stop("the table could not be written", "");
     return 0;
 }

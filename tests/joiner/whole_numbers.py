@@ -1,67 +1,18 @@
-"""Runs the joining example and holds every coefficient that it prints against exact integers.
+"""Runs the joining example and holds every coefficient that it prints against exact integers; then what it says to wrong arguments.
 
 Usage: whole_numbers.py JOINER
 """
 
-import subprocess
+import math
 import sys
 
-# the sixteen largest primes below 2^31, found by search
-def primes():
-    found = []
-    candidate = 2**31 - 1
-    while len(found) < 16:
-        if all(candidate % d for d in range(2, 46341)):
-            found.append(candidate)
-        candidate -= 1
-    return found
+from exact import Report, digits, primes, run, table, text, words
 
+USUAL = (300, 9, [[0, 1, 1], [0, 1, 2]])
 
-def product(a, b, n):
-    result = [0] * n
-    for i, x in enumerate(a):
-        if x:
-            for j, y in enumerate(b[: n - i]):
-                result[i + j] += x * y
-    return result
-
-
-def composed(f, g, n):
-    """f(g) below x^n over the integers, from the powers of g."""
-    result = [0] * n
-    power = [1] + [0] * (n - 1)
-    for i, coefficient in enumerate(f):
-        if i:
-            power = product(power, g, n)
-        result = [r + coefficient * x for r, x in zip(result, power)]
-    return result
-
-
-def table(n, cycles, lists):
-    running = ([0, 1] + [0] * n)[:n]
-    for i in range(cycles):
-        running = composed(lists[i % len(lists)], running, n)
-    return running
-
-
-def value_at_one(cycles, lists):
-    value = 1
-    for i in range(cycles):
-        value = sum(c * value**k for k, c in enumerate(lists[i % len(lists)]))
-    return value
-
-
-def run(joiner, *arguments):
-    return subprocess.run([joiner, *arguments], capture_output=True, text=True, timeout=120)
-
-
-def words(n, cycles, lists):
-    return [str(n), str(cycles), *(",".join(map(str, l)) for l in lists)]
-
-
-# order, cycles, lists: each has a sum of coefficients below the product of the primes
-ACCEPTED = [
-    (300, 9, [[0, 1, 1], [0, 1, 2]]),
+# order, cycles, lists: every coefficient is below the product of the primes
+JOINED = [
+    USUAL,
     (1, 3, [[0, 1, 1]]),
     (2, 0, [[0, 1, 1]]),
     (5, 2, [[0, 1, 1]]),
@@ -75,74 +26,98 @@ ACCEPTED = [
     (20, 64, [[0, 1]]),
     (150, 10, [[0, 1, 1], [0, 2, 1], [0, 1]]),
     (4, 1, [[0, 1, 1] + [0] * 4093]),
+    # the sum of all coefficients is not below the product, those below the order are
+    (5, 30, [[0, 1, 1]]),
+    (50, 30, [[0, 1, 1]]),
+    (70, 30, [[0, 1, 1]]),
+    (100, 20, [[0, 1, 1]]),
+    (10, 64, [[0, 1, 1]]),
+    (2, 64, [[0, 1, 1]]),
+    (64, 20, [[0, 0, 4294967295]]),
+    (64, 24, [[0, 4294967295]] * 18 + [[0, 0, 4294967295]] * 6),
+    (8, 64, [[0, 4294967295], [0, 0, 4294967295]]),
+    (3, 64, [[9, 0, 1], [7]]),
 ]
 
 # arguments, and a part of what the program says
 REFUSED = [
     (["300"], "usage"),
     (["300", "9"], "usage"),
+    (["-h"], "usage"),
+    (["--help", "9"], "usage"),
+    (["--help", "9", "0,1"], "not a whole number"),
     (["0", "1", "0,1"], "too small"),
     (["4097", "1", "0,1"], "too large"),
     (["ten", "1", "0,1"], "not a whole number"),
     (["-4", "1", "0,1"], "not a whole number"),
     (["4x", "1", "0,1"], "not a whole number"),
     (["4", "65", "0,1"], "too large"),
-    (["4", "1", ""], "not a whole number"),
-    (["4", "1", "0,,1"], "not a whole number"),
-    (["4", "1", "0,1,"], "not a whole number"),
-    (["4", "1", "0;1"], "commas"),
+    (["4", "1", ""], "a list is empty"),
+    (["4", "1", "0,1", ""], "a list is empty"),
+    (["4", "1", "0 1 1"], "no spaces"),
+    (["4", "1", "0, 1, 1"], "no spaces"),
+    (["4", "1", " 0,1"], "no spaces"),
+    (["4", "1", "0,1 "], "no spaces"),
+    (["4", "1", "0\t1"], "no spaces"),
+    (["4", "1", "0,1,"], "ends with a comma"),
+    (["4", "1", "0,,1"], "a number before each comma"),
+    (["4", "1", ",1"], "a number before each comma"),
+    (["4", "1", "0;1"], "commas between them"),
     (["4", "1", "0,-1"], "not a whole number"),
     (["4", "1", "0,4294967296"], "too large"),
     (["4", "1", "0,99999999999999999999"], "too large"),
     (["4", "1", ",".join(["0"] * 4097)], "4096 places"),
     (["4", "1"] + ["0,1"] * 65, "64 lists"),
     (["300", "10", "0,1,1"], "product of the sixteen primes"),
-    (["2", "64", "0,1,1"], "product of the sixteen primes"),
+    (["5", "64", "5,0,1"], "every bound"),
 ]
 
 
-def edge(bound):
-    """A setting whose table is `bound` and zeros: its digits in the radix 2^31, by Horner."""
-    cycles, digits = [], []
-    while bound:
-        digits.append(bound % 2**31)
-        bound //= 2**31
-    for i, digit in enumerate(reversed(digits)):
-        cycles.append([digit, 2**31 if i else 0])
+def edge(value):
+    """A setting whose table is `value` and zeros: its digits, by Horner."""
+    cycles = [[digit, 2**31 if i else 0] for i, digit in enumerate(digits(value))]
     return 2, len(cycles), cycles
 
 
-def main(joiner):
-    limit = 1
-    for p in primes():
-        limit *= p
-    failures = compared = largest = 0
-    settings = ACCEPTED + [edge(limit - 1)]
-    for n, cycles, lists in settings:
-        assert value_at_one(cycles, lists) < limit, (n, cycles, lists)
-        answer = run(joiner, *words(n, cycles, lists))
-        expected = table(n, cycles, lists)
-        printed = answer.stdout.split("\n")
-        if answer.returncode != 0 or printed != [*map(str, expected), ""]:
-            failures += 1
-            print(f"DIFFERENT: joiner {' '.join(words(n, cycles, lists))[:200]}: {answer.stderr}")
-        compared += n
+def joined(joiner, limit, report):
+    """How many whole numbers were compared, and the bits of the largest."""
+    compared = largest = 0
+    for setting in JOINED + [edge(limit - 1)]:
+        expected = table(*setting)
+        assert max(expected) < limit, setting
+        answer = run(joiner, *words(*setting))
+        same = (answer.returncode, answer.stdout, answer.stderr) == (0, text(expected), "")
+        report.see(same, f"joined: joiner {' '.join(words(*setting))}: {answer.stderr}")
+        compared += len(expected)
         largest = max(largest, *expected)
-    refusals = [*REFUSED, (words(*edge(limit)), "product of the sixteen primes")]
-    for arguments, says in refusals:
-        answer = run(joiner, *arguments)
-        if answer.returncode != 1 or answer.stdout or says not in answer.stderr:
-            failures += 1
-            print(f"NOT REFUSED AS IT MUST BE: joiner {' '.join(arguments)[:200]}: {answer.stderr}")
     usual = run(joiner)
-    if usual.stdout != "".join(f"{c}\n" for c in table(*ACCEPTED[0])):
-        failures += 1
-        print("DIFFERENT: joiner with no arguments")
+    report.see((usual.returncode, usual.stdout) == (0, text(table(*USUAL))), "joined: joiner with no arguments")
+    return compared, largest.bit_length()
+
+
+def refused(joiner, limit, report):
+    for arguments, says in [*REFUSED, (words(*edge(limit)), "product of the sixteen primes")]:
+        answer = run(joiner, *arguments)
+        right = answer.returncode == 1 and answer.stdout == "" and says in answer.stderr and answer.stderr.count("\n") == 1
+        report.see(right, f"refused with '{says}': joiner {' '.join(arguments)}: {answer.stderr}")
+
+
+def helped(joiner, report):
+    answer = run(joiner, "--help")
+    right = answer.returncode == 0 and answer.stderr == "" and answer.stdout.startswith("usage: joiner ORDER CYCLES LIST...\n")
+    report.see(right, f"the use is printed: joiner --help: {answer.stdout}{answer.stderr}")
+
+
+def main(joiner):
+    limit = math.prod(primes())
+    report = Report()
+    compared, bits = joined(joiner, limit, report)
+    refused(joiner, limit, report)
+    helped(joiner, report)
     print(
-        f"joiner: {len(settings)} tables, {compared} whole numbers compared, the largest of {largest.bit_length()} bits; "
-        f"{len(refusals)} refusals; {failures} failures"
+        f"joiner: {report.tried} runs, {compared} whole numbers compared, the largest of {bits} bits; {report.failures} failures"
     )
-    return 1 if failures else 0
+    return 1 if report.failures else 0
 
 
 if __name__ == "__main__":
