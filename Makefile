@@ -103,7 +103,7 @@ joiner: library
 	python3 -B tests/joiner/rounding.py $(ROUNDING) $(SEED)
 	rm -f target/joiner
 	sed -n '/gcc .*examples\/joiner\.c/p' examples/README.md | sh -ex
-	target/joiner 5 2 0,1,1
+	test "$$(target/joiner 5 2 0,1,1 | tr '\n' ' ')" = '0 1 2 2 1 '
 
 bench: library $(PLAIN)
 	mkdir -p $(dir $(BENCH))
