@@ -3,8 +3,7 @@
 ghost use mathlib.Core.Path.{_≡_};
 ghost use Prim.Native.Nat.{_+_, _*_, _%_, _<_, _^_};
 ghost use lib.ListN.{length};
-ghost use lib.Seq.{sets};
-ghost use Rattle.definition.specs.Lists.{coefficient, tabulate};
+ghost use Rattle.definition.specs.Lists.{coefficient};
 ghost use Rattle.definition.specs.Substitution.{product};
 ghost use Rattle.product.specs.Double.{MultipliedRow, MultipliedRows, RowOperands};
 ghost use Rattle.product.specs.Single.{Multiplied, MultipliedAdd, Operands};
