@@ -61,7 +61,7 @@ graeffe-list p m r q Q =
     plane (ceilDiv r 2) (suc (degreeBound m q)) (Plain.evenPart (cutProduct2At p (planeAt r Q) (Plain.opposite p (planeAt r Q))))
 
 unfoldable pub levels-list : ℕ → List ℕ → ℕ → ℕ → ℕ → ℕ → List ℕ → List ℕ
-levels-list p f zero r q d Q = drop d (Plain.quotient p (length f) (coefficient (reverse f)) (λ j. planeAt r Q j 0))
+levels-list p f zero r q d Q = drop d (Plain.quotient p (length f) (coefficient (Plain.numerator f)) (λ j. planeAt r Q j 0))
 levels-list p f (suc K) r q d Q =
     plane r (length f - d) (Plain.window (d - (d - q)) (cutProduct2At p
     (Plain.squared (planeAt (ceilDiv r 2)
@@ -113,7 +113,7 @@ module _ {p : ℕ} (l : 0 < p) where
 
     last-listed : (q d : ℕ) (Q : List ℕ)
         → levels-list p f 0 1 q d Q ≡ listed-plane 1 (m - d) (levels R N P m 0 1 q d (plane-of l 1 Q))
-    unfolding levels-list levels
+    unfolding levels-list levels Plain.numerator
     last-listed q d Q =
         rw (
           quotient-listed l (coefficient (reverse f)) (λ j. planeAt 1 Q j 0) m,

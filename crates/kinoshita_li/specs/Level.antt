@@ -12,7 +12,7 @@ use Prim.Native.Nat.{ℕ, suc, _+_, _-_, _*_, _^_, _<_, _≤_}
 use native.Mathlib.Nat.{mul-add, mul-comm, mul-le-mul-right, mul-one, pow-suc}
 use native.Mathlib.Numerals.{add-one}
 use native.Mathlib.Omega.{arith}
-use mathlib.Core.List.{List, _++_, reverse}
+use mathlib.Core.List.{List, _++_}
 use mathlib.Core.Logic.{inl}
 use mathlib.Core.Path.{_≡_, refl, sym, ap, _∙_}
 use lib.ListN.{length, take, drop, length-drop, length-reverse}
@@ -71,7 +71,7 @@ module _ {p q d : ℕ} {f w : List ℕ} (lent : LevelLent p 0 1 q d f w) where
         rw (mul-one, mul-one)
         (segment-sets v (q + 1) (segment v (q + 1 + d) (m - d)) (m - d) size (omega (arith, done .within .size, size-w₁, last-room))
         ∙ sym (segment-segment v (q + 1) m d (m - d) (omega (arith, lent .low)))
-        ∙ rw (done .quotient, reversed, denominator, planeAt-column (segment w 0 (q + 1)))
+        ∙ rw (done .quotient, divided, denominator, planeAt-column (segment w 0 (q + 1)))
         (take-all (m - d) (drop d U) (rw (length-drop, length-quotient) (omega arith))));
     within =
         rw mul-one
@@ -83,19 +83,19 @@ module _ {p q d : ℕ} {f w : List ℕ} (lent : LevelLent p 0 1 q d f w) where
   }
     where
       U : List ℕ
-      U = quotient p m (coefficient (reverse f)) (coefficient (segment w 0 (q + 1)))
+      U = quotient p m (coefficient (numerator f)) (coefficient (segment w 0 (q + 1)))
 
       size-w₁ : length w₁ ≡ length w
-      size-w₁ = length-sets w (q + 1) (reverse f)
+      size-w₁ = length-sets w (q + 1) (numerator f)
 
       size : length (segment v (q + 1 + d) (m - d)) ≡ m - d
       size = length-part v (q + 1 + d) (m - d) (omega (arith, done .within .size, size-w₁, last-room, lent .low))
 
       first : Within (q + 1) m w w₁
-      first = within-sets w (q + 1) (reverse f) (omega arith) (rw length-reverse (omega arith))
+      first = within-sets w (q + 1) (numerator f) (omega arith) (rw length-reverse (omega arith))
 
-      reversed : segment w₁ (q + 1) m ≡ reverse f
-      reversed = segment-sets w (q + 1) (reverse f) m (length-reverse f) (omega (arith, last-room))
+      divided : segment w₁ (q + 1) m ≡ numerator f
+      divided = segment-sets w (q + 1) (numerator f) m (length-reverse f) (omega (arith, last-room))
 
       denominator : segment w₁ 0 (q + 1) ≡ segment w 0 (q + 1)
       denominator = segment-within first 0 (q + 1) (inl (omega arith))
