@@ -24,7 +24,7 @@ use Rattle.product.specs.Planes.{held, held-kept}
 use Rattle.product.specs.Segments.{segment, length-segment}
 use Rattle.product.specs.declared.Rows.{Rows}
 use Rattle.route.specs.Within.{Within, within-sets, within-trans, within-wider, segment-sets, segment-within}
-use Rattle.kinoshita_li.specs.Exact.{even-plane, opposite-exact, squared-exact, window-0}
+use Rattle.bivariate.specs.Exact.{even-plane, opposite-exact, squared-exact, window-0}
 use Rattle.kinoshita_li.specs.declared.level.Layout.{Layout}
 
 pub record Parts (p r : ℕ) (s : Layout) (w : List ℕ) : Type 0 where

@@ -19,14 +19,15 @@ use lib.ListN.{length, take, drop, length-drop, length-reverse}
 use lib.Seq.{sets, length-sets, take-all}
 use Rattle.algebra.specs.KinoshitaLiLists.{graeffe-list, levels-list}
 use Rattle.buffer.specs.Written.{length-part}
-use Rattle.definition.specs.KinoshitaLi.{numerator, opposite, planeAt, quotient}
+use Rattle.definition.specs.KinoshitaLi.{numerator, opposite, plane, planeAt, quotient, window}
 use Rattle.definition.specs.Lists.{ceilDiv, coefficient}
 use Rattle.definition.specs.Weight.{degreeBound, kinoshitaLiLevels}
 use Rattle.product.specs.Planes.{held}
 use Rattle.product.specs.Segments.{segment, segment-segment}
+use Rattle.product.specs.declared.Rows.{Rows}
 use Rattle.route.specs.Within.{Within, rest-back, rest-lent, within-rest, within-sets, within-trans, within-wider, segment-rest, segment-sets, segment-within}
-use Rattle.kinoshita_li.specs.Division.{Divided, length-quotient}
-use Rattle.kinoshita_li.specs.Exact.{planeAt-column}
+use Rattle.bivariate.specs.Division.{Divided, length-quotient}
+use Rattle.bivariate.specs.Exact.{planeAt-column, window-segment}
 use Rattle.kinoshita_li.specs.Graeffe.{Expanded, Graeffe, Parts, parts-length}
 use Rattle.kinoshita_li.specs.Layout.{Bounded, layoutOf}
 use Rattle.kinoshita_li.specs.Space.{levelPlaces, level-rows}
@@ -63,18 +64,22 @@ module _ {p q d : ℕ} {f w : List ℕ} (lent : LevelLent p 0 1 q d f w) where
   abbrev w₁ : List ℕ
   w₁ = sets w (q + 1) (numerator f)
 
+  -- the quotient stands behind Q, in rows of one place
+  abbrev quotientRows : Rows
+  quotientRows = record { at = q + 1; count = m }
+
   pub last-level : {v : List ℕ} → Divided p m (q + 1) w₁ v
-      → Levelled p 0 1 q d f w (sets v (q + 1) (segment v (q + 1 + d) (m - d))) 0
+      → Levelled p 0 1 q d f w (sets v (q + 1) (plane 1 (m - d) (window d (held 1 v quotientRows)))) 0
   unfolding levels-list kinoshitaLiLevels numerator
   last-level {v} done = record {
     rows =
-        rw (mul-one, mul-one)
+        rw (mul-one, mul-one, kept)
         (segment-sets v (q + 1) (segment v (q + 1 + d) (m - d)) (m - d) size (omega (arith, done .within .size, size-w₁, last-room))
         ∙ sym (segment-segment v (q + 1) m d (m - d) (omega (arith, lent .low)))
         ∙ rw (done .quotient, divided, denominator, planeAt-column (segment w 0 (q + 1)))
         (take-all (m - d) (drop d U) (rw (length-drop, length-quotient) (omega arith))));
     within =
-        rw mul-one
+        rw (mul-one, kept)
         (within-trans (within-wider (omega arith) (omega (arith, last-room)) first)
         (within-trans (within-wider (omega arith) (omega (arith, last-room)) (done .within))
         (within-sets v (q + 1) (segment v (q + 1 + d) (m - d)) (omega arith) (omega (arith, size, last-room)))));
@@ -87,6 +92,12 @@ module _ {p q d : ℕ} {f w : List ℕ} (lent : LevelLent p 0 1 q d f w) where
 
       size-w₁ : length w₁ ≡ length w
       size-w₁ = length-sets w (q + 1) (numerator f)
+
+      kept : plane 1 (m - d) (window d (held 1 v quotientRows)) ≡ segment v (q + 1 + d) (m - d)
+      kept =
+          window-segment 1 v quotientRows d (omega (arith, lent .low))
+          (rw mul-one (omega (arith, done .within .size, size-w₁, last-room)))
+          ∙ rw (mul-one, mul-one)
 
       size : length (segment v (q + 1 + d) (m - d)) ≡ m - d
       size = length-part v (q + 1 + d) (m - d) (omega (arith, done .within .size, size-w₁, last-room, lent .low))

@@ -1,6 +1,6 @@
 // The levels: each forms the denominator of the next one at half the order, and its result from the result of the next one.
-use crate::division;
-use crate::rows;
+use bivariate::division;
+use bivariate::rows;
 use product::Rows;
 use product::Weight;
 ghost use mathlib.Core.Path.{_≡_};
@@ -126,7 +126,15 @@ fn last(p: u32, q: usize, d: usize, f: &[u32], w: &mut [u32])
     let t = q + 1;
     division::numerator(f, w, t);
     division::divide(p, m, t, w);
-    buffer::move_down(w, t + d, t, m - d);
+    rows::window(
+        1,
+        w,
+        Rows {
+            at: t,
+            count: m,
+        },
+        d,
+    );
 }
 
 // Leaves the powers of y from d to m - 1 of P / Q, below x^r, behind the Q in the first q + 1 rows of r places.

@@ -1,7 +1,5 @@
 // Route 4, Kinoshita and Li (document 001, Algorithm 2): f(g) modulo x^n as a coefficient of P / (1 - y g), by halving the order in x.
-mod division;
 mod level;
-mod rows;
 
 use product::Weight;
 ghost use lib.ListN.{length};
@@ -14,7 +12,7 @@ fn fraction(p: u32, n: usize, q: usize, f: &[u32], g: &[u32], w: &mut [u32]) -> 
     requires { ⌜ FractionLent p n q (now f) (now w) ⌝ }
     ensures { λ s. ⌜ Fraction p n q (now (f .entry)) (now (g .entry)) (now (w .exit)) (s .places) ⌝ }
 {
-    rows::denominator(p, n, q + 1, g, w);
+    bivariate::rows::denominator(p, n, q + 1, g, w);
     level::level(p, number::halvings(n), n, q, f.len() - 1, f, w)
 }
 

@@ -1,6 +1,7 @@
 -- `kinoshita_li::level::last` meets its contract. Assumes nothing.
 use borrow.Author.Needs.{needs}
 use native.Mathlib.Omega.{arith}
+use native.Mathlib.Nat.{mul-one}
 use Rattle.kinoshita_li.specs.Level.{last-level, last-room}
 use Rattle.kinoshita_li.proofs.level.last.Statement.{statement}
 use Rattle.kinoshita_li.proofs.level.last.Tie as tie
@@ -16,16 +17,11 @@ divide-requires c κs =
     let lent = c .before .before .before .before .before .before .before .pre in
     (lent .modulus, omega (arith, lent .outer), omega (arith, last-room lent))
 
-add-move-down : tie.Need-add-move-down
-add-move-down c = omega (arith, c .before .before .before .before .before .before .before .before .before .before .before .pre)
-
-sub-move-down : tie.Need-sub-move-down
-sub-move-down c = omega (arith, c .before .before .before .before .before .before .before .before .before .before .before .pre)
-
-move-down-requires : tie.Need-move-down-requires
-move-down-requires c κs =
-    let lent = c .before .before .before .before .before .before .before .before .before .before .before .pre in
-    (omega arith, omega (arith, last-room lent, lent .low))
+window-requires : tie.Need-window-requires
+window-requires c κs =
+    let divided = c .before .before .before in
+    let lent = divided .before .before .before .before .before .before .before .before .pre in
+    (omega (arith, lent .low), rw mul-one (omega (arith, last-room lent)))
 
 same-length : tie.Need-same-length
 same-length c = search needs
@@ -35,7 +31,7 @@ returns c =
     let moved = c .before .before in
     let divided = moved .before .before .before .before in
     let reversed = divided .before .before .before .before in
-    rw (moved .move-down .ensures)
+    rw (moved .window .ensures)
     (last-level (reversed .before .before .before .before .pre) (rw (reversed .numerator .ensures) at (divided .divide .ensures)))
 
 pub last-spec : {M : Type 1} → statement M
@@ -45,8 +41,6 @@ last-spec =
     add-t
     numerator-requires
     divide-requires
-    add-move-down
-    sub-move-down
-    move-down-requires
+    window-requires
     same-length
     returns)
