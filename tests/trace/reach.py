@@ -21,8 +21,8 @@ def definitions():
     found = {}
     for file in sorted((CRATES / "definition" / "specs").glob("*.antt")):
         text = re.sub(r"^--.*$", "", file.read_text(), flags=re.M)
-        for part in re.split(r"^(?=unfoldable pub |pub record )", text, flags=re.M)[1:]:
-            name = re.match(rf"(?:unfoldable pub|pub record) ({WORD})", part).group(1)
+        for part in re.split(r"^(?=unfoldable pub |abbrev pub |pub record )", text, flags=re.M)[1:]:
+            name = re.match(rf"(?:unfoldable pub|abbrev pub|pub record) ({WORD})", part).group(1)
             found[name] = set(re.findall(WORD, part)) - {name}
     return found
 

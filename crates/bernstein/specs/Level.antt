@@ -26,6 +26,7 @@ use Rattle.definition.specs.Bernstein.{part, partCount, pthPowers, spreadList}
 use Rattle.definition.specs.Lists.{ceilDiv, coefficient, tabulate}
 use Rattle.definition.specs.Prime.{Prime}
 use Rattle.definition.specs.Ranged.{joined}
+use Rattle.definition.specs.Refusal.{limit}
 use Rattle.definition.specs.Substitution.{composed}
 use Rattle.definition.specs.Weight.{bernsteinWeight}
 use Rattle.product.specs.Segments.{segment}
@@ -41,8 +42,8 @@ restAt n m = n + m + n + n
 pub record Room (p n m : ℕ) (w : List ℕ) : Type 0 where
   pub prime : Prime p
   pub positive : 0 < n
-  pub order : n ≤ 4096
-  pub outer : m ≤ 4096
+  pub order : n ≤ limit
+  pub outer : m ≤ limit
   pub room : 6 * (n + m) ≤ length w
 
 pub record Level (p n m : ℕ) (before after : List ℕ) (result : ℕ) : Type 0 where

@@ -17,6 +17,7 @@ use Rattle.algebra.specs.Sum.{⊗-sum}
 use Rattle.bernstein.specs.Counts.{ceilDiv-half, partCount-half, partCount-sum}
 use Rattle.definition.specs.Bernstein.{partCount}
 use Rattle.definition.specs.Lists.{sum, ceilDiv}
+use Rattle.definition.specs.Refusal.{limit}
 use Rattle.definition.specs.Weight.{bernsteinLevels, bernsteinWeight}
 
 sum-≤ : (n : ℕ) (f g : ℕ → ℕ) → ((k : ℕ) → k < n → f k ≤ g k) → sum n f ≤ sum n g
@@ -93,8 +94,8 @@ module _ {p : ℕ} (above : 1 < p) where
           rw (levels-high depth p n m (omega arith), suc-mul, add-mul)
           (omega (arith, mul-le-mul-right {m = min p m - 1} {n = m} n (omega (arith, min-le-right p m)), mul-comm m n))
 
-  pub weight-small : (n m : ℕ) → n ≤ 4096 → m ≤ 4096 → bernsteinWeight p n m < 2 ^ 64
+  pub weight-small : (n m : ℕ) → n ≤ limit → m ≤ limit → bernsteinWeight p n m < 2 ^ 64
   unfolding bernsteinWeight
   weight-small n m bn bm =
-      let h : m * n * m ≤ 4096 * 4096 * 4096 = mul-le-mul (mul-le-mul bm bn) bm in
+      let h : m * n * m ≤ limit * limit * limit = mul-le-mul (mul-le-mul bm bn) bm in
       omega (arith, levels-bound m n m)

@@ -61,7 +61,6 @@ module _ {p n : ℕ} (s : List ℕ) {number : ℕ} (tested : number ≡ openRefu
 
 -- a cycle asks for more work than compose
 work-within : (n m : ℕ) → composeWork n m ≤ cycleWork n m
-unfolding composeWork cycleWork
 work-within n m = omega arith
 
 pub bounds-lent : {route p n done work : ℕ} {c s : List ℕ} → CycleBounds route p n done c s work → Lent p n (length c) work

@@ -54,7 +54,7 @@ pub record ChainOf (p n p′ n′ done : ℕ) (s : List ℕ) (cs : List (List �
 
 opened-chain : {p n : ℕ} {s s′ : List ℕ} {number weight p′ n′ done′ : ℕ} → Open p n s s′ number weight p′ n′ done′ → number ≡ 0
     → ChainOf p n p′ n′ done′ s′ []
-unfolding answered kept running after mostCycles
+unfolding answered kept running after
 opened-chain {n = n} o e =
     let x : _≡_ {A = List ℕ} _ (identity n) = rw e at (o .running) in
     record {

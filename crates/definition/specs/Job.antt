@@ -21,10 +21,10 @@ unfoldable pub headerBytes : ℕ
 headerBytes = 28
 
 -- the longest file, and the largest order and count that a header may state
-unfoldable pub mostBytes : ℕ
+abbrev pub mostBytes : ℕ
 mostBytes = 4096
 
-unfoldable pub mostPlaces : ℕ
+abbrev pub mostPlaces : ℕ
 mostPlaces = 64
 
 unfoldable pub word : List ℕ → ℕ → ℕ

@@ -3,6 +3,7 @@
 --
 --   first tests          the number of the first test that fires, or 0
 --   composeRefusal, reverseRefusal, openRefusal, cycleRefusal, tableRefusal, renderRefusal   the number of each call
+--   workPlaces each n m  so many places of work for each power of x below the order n, and 8 for each of m coefficients
 --   composeWork n m      the places of work that compose and reverse ask for
 --   cycleWork n m        the places of work that a cycle asks for
 use Prim.Native.Nat.{ℕ, _+_, _*_}
@@ -26,18 +27,21 @@ first [] = 0
 first (t ∷ ts) = cond (t .fires) (t .number) (first ts)
 
 -- the largest order, and the longest list that a call takes
-unfoldable pub limit : ℕ
+abbrev pub limit : ℕ
 limit = 4096
 
 -- the most cycles of a chain
-unfoldable pub mostCycles : ℕ
+abbrev pub mostCycles : ℕ
 mostCycles = 64
 
-unfoldable pub composeWork : ℕ → ℕ → ℕ
-composeWork n m = 128 * n + 8 * m
+abbrev pub workPlaces : ℕ → ℕ → ℕ → ℕ
+workPlaces each n m = each * n + 8 * m
 
-unfoldable pub cycleWork : ℕ → ℕ → ℕ
-cycleWork n m = 144 * n + 8 * m
+abbrev pub composeWork : ℕ → ℕ → ℕ
+composeWork n m = workPlaces 128 n m
+
+abbrev pub cycleWork : ℕ → ℕ → ℕ
+cycleWork n m = workPlaces 144 n m
 
 -- 1: the route is not 1, 2, 3 or 4
 unfoldable pub badRoute : ℕ → Bool
@@ -47,11 +51,11 @@ badRoute route = eqb route 0 || ltb 4 route
 unfoldable pub badModulus : ℕ → Bool
 badModulus p = ltb largestModulus p || not (isPrime p)
 
--- 3: n is 0 or above 4096
+-- 3: n is 0 or above the limit
 unfoldable pub badOrder : ℕ → Bool
 badOrder n = eqb n 0 || ltb limit n
 
--- 4 and 5: a list is longer than 4096
+-- 4 and 5: a list is longer than the limit
 unfoldable pub tooLong : List ℕ → Bool
 tooLong l = ltb limit (length l)
 

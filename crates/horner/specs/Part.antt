@@ -21,6 +21,7 @@ use lib.Seq.{sets, drop-cons, getD-drop}
 use Rattle.algebra.specs.Composition.{composed-∷, composed-constant}
 use Rattle.algebra.specs.Lists.{length-tabulate}
 use Rattle.definition.specs.Lists.{coefficient, tabulate}
+use Rattle.definition.specs.Refusal.{limit}
 use Rattle.definition.specs.Substitution.{composed, constant, hornerStep}
 use Rattle.definition.specs.Weight.{hornerWeight}
 use Rattle.horner.specs.Step.{Stepped, length-step}
@@ -32,8 +33,8 @@ use Rattle.route.specs.Within.{Within, within-refl, within-sets, within-trans, 
 pub record PartOperands (p n : ℕ) (f : List ℕ) (b t : ℕ) (w : List ℕ) : Type 0 where
   pub modulus : 0 < p
   pub positive : 0 < n
-  pub order : n ≤ 4096
-  pub outer : length f ≤ 4096
+  pub order : n ≤ limit
+  pub outer : length f ≤ limit
   pub inner : Apart w b n t (2 * n)
 
 pub record Part (p n : ℕ) (f : List ℕ) (b t : ℕ) (before after : List ℕ) (result : ℕ) : Type 0 where
@@ -96,10 +97,10 @@ module _ {p n : ℕ} {f : List ℕ} {b t : ℕ} {w : List ℕ} (o : PartOperands
       kept : segment u b n ≡ segment w b n
       kept = segment-within (r .within) b n (o .inner .apart)
 
-  pub running-small : {i weight : ℕ} {u : List ℕ} → Running p n f b t w u (suc i) weight → weight + n ≤ 4096 * 4096
+  pub running-small : {i weight : ℕ} {u : List ℕ} → Running p n f b t w u (suc i) weight → weight + n ≤ limit * limit
   unfolding hornerWeight
   running-small {i} r =
-      omega (arith, r .sum, suc-mul i n, mul-le-mul {n₁ = length f - 1} {n₂ = 4096} {m₂ = 4096} (omega (arith, o .outer)) (o .order))
+      omega (arith, r .sum, suc-mul i n, mul-le-mul {n₁ = length f - 1} {n₂ = limit} {m₂ = limit} (omega (arith, o .outer)) (o .order))
 
 -- the first turn begins with the top coefficient at t; w is the buffer before it is put there, v after
 module _ {p n : ℕ} {f : List ℕ} {b t : ℕ} {w : List ℕ} (o : PartOperands p n f b t w)

@@ -70,10 +70,10 @@ module _ {file : List ℕ} {k count : ℕ} (list : List ℕ) (stated : Stated fi
         first = take-at part rest count size ∙ same ∙ rw (stated-length, counted, offset);
       }
 
-pub header-large : (file : List ℕ) → length file ≤ 4096 → 28 ≤ length file
-    → tooLarge file ≡ (ltb 64 (order file) || ltb 64 (field file 3) || ltb 64 (field file 5))
-unfolding headerBytes mostBytes mostPlaces tooLarge
-header-large file short whole = rw (le-ltb 4096 (length file) short, le-leb 28 (length file) whole)
+pub header-large : (file : List ℕ) → length file ≤ mostBytes → 28 ≤ length file
+    → tooLarge file ≡ (ltb mostPlaces (order file) || ltb mostPlaces (field file 3) || ltb mostPlaces (field file 5))
+unfolding headerBytes tooLarge
+header-large file short whole = rw (le-ltb mostBytes (length file) short, le-leb 28 (length file) whole)
 
 pub record Accepted (file : List ℕ) : Type 0 where
   pub large : tooLarge file ≡ false
@@ -91,26 +91,26 @@ module _ {file : List ℕ} (accepted : Accepted file) where
   unfolding headerBytes
   whole = ltb-false (length file) 28 (header-lists .0 .0)
 
-  stated : ((order file ≤ 64) × (field file 3 ≤ 64)) × (field file 5 ≤ 64)
-  unfolding mostBytes tooLarge
+  stated : ((order file ≤ mostPlaces) × (field file 3 ≤ mostPlaces)) × (field file 5 ≤ mostPlaces)
+  unfolding tooLarge
   stated =
-      let short = ltb-false 4096 (length file) (either-false (ltb mostBytes (length file)) _ (accepted .large) .0) in
+      let short = ltb-false mostBytes (length file) (either-false (ltb mostBytes (length file)) _ (accepted .large) .0) in
       let header = sym (header-large file short whole) ∙ accepted .large in
-      let (first, inner) = either-false (ltb 64 (order file) || ltb 64 (field file 3)) (ltb 64 (field file 5)) header in
-      let (stated-order, outer) = either-false (ltb 64 (order file)) (ltb 64 (field file 3)) first in
-      ((ltb-false 64 _ stated-order, ltb-false 64 _ outer), ltb-false 64 _ inner)
+      let (first, inner) = either-false (ltb mostPlaces (order file) || ltb mostPlaces (field file 3)) (ltb mostPlaces (field file 5)) header in
+      let (stated-order, outer) = either-false (ltb mostPlaces (order file)) (ltb mostPlaces (field file 3)) first in
+      ((ltb-false mostPlaces _ stated-order, ltb-false mostPlaces _ outer), ltb-false mostPlaces _ inner)
 
-  pub small-order : order file ≤ 64
+  pub small-order : order file ≤ mostPlaces
   small-order = stated .0 .0
 
-  pub small-outer : field file 3 ≤ 64
+  pub small-outer : field file 3 ≤ mostPlaces
   small-outer = stated .0 .1
 
-  pub small-inner : field file 5 ≤ 64
+  pub small-inner : field file 5 ≤ mostPlaces
   small-inner = stated .1
 
-  pub outer-stated : {places : ℕ} → 64 ≡ places → Stated file 3 places
+  pub outer-stated : {places : ℕ} → mostPlaces ≡ places → Stated file 3 places
   outer-stated enough = record { header = whole; number = omega arith; room = rw (← enough) small-outer; lies = header-lists .0 .1 }
 
-  pub inner-stated : {places : ℕ} → 64 ≡ places → Stated file 5 places
+  pub inner-stated : {places : ℕ} → mostPlaces ≡ places → Stated file 5 places
   inner-stated enough = record { header = whole; number = omega arith; room = rw (← enough) small-inner; lies = header-lists .1 }

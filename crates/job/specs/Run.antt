@@ -3,7 +3,7 @@
 --   Lists              the lists of a file that the tests 12 and 13 let pass, and an output of exactly n places
 --   Composition        what compose leaves for a file
 --   lists-few          the order and the outer count are at most 64
---   work-fits          8704 places are enough work
+--   work-fits          the work for the largest order and count is enough
 --   composition        a call of compose on the lists of a file, with just enough work, is its composition
 --   composition-order  the order of a job that compose accepts is not 0
 --   job-numbers        the job program never meets 4 to 7
@@ -18,21 +18,8 @@ use mathlib.Core.Logic.{_≢_}
 use mathlib.Core.Path.{_≡_, refl, sym, ap, _∙_}
 use Rattle.definition.specs.Answer.{answered, kept}
 use Rattle.definition.specs.Calls.{Compose}
-use Rattle.definition.specs.Job.{composeNumber, cutShort, field, inner, jobRefusal, modulus, order, outer, route, tooLarge}
-use Rattle.definition.specs.Refusal.{
-  Test,
-  badModulus,
-  badOrder,
-  badRoute,
-  composeRefusal,
-  composeWork,
-  exceeds,
-  first,
-  limit,
-  notPlaces,
-  test,
-  tooLong,
-}
+use Rattle.definition.specs.Job.{composeNumber, cutShort, field, inner, jobRefusal, modulus, mostPlaces, order, outer, route, tooLarge}
+use Rattle.definition.specs.Refusal.{Test, badModulus, badOrder, badRoute, composeRefusal, composeWork, exceeds, first, limit, notPlaces, test, tooLong}
 use Rattle.definition.specs.Substitution.{composed}
 use Rattle.definition.specs.Weight.{weight}
 use Rattle.job.specs.File.{Accepted, length-listAt, small-inner, small-order, small-outer}
@@ -62,14 +49,13 @@ module _ {file f g output : List ℕ} (lists : Lists file f g output) where
   outer-count : length f ≡ field file 3
   outer-count = ap length (lists .outer-list) ∙ length-outer file
 
-  pub lists-few : (length output ≤ 64) × (length f ≤ 64)
+  pub lists-few : (length output ≤ mostPlaces) × (length f ≤ mostPlaces)
   lists-few =
       let n = small-order (lists .accepted) in
       let m = small-outer (lists .accepted) in
       (omega (arith, lists .places), omega (arith, outer-count))
 
-  pub work-fits : {end : ℕ} (work : List ℕ) → end ≡ composeWork (length output) (length f) → 8704 ≡ length work → end ≤ length work
-  unfolding composeWork
+  pub work-fits : {end : ℕ} (work : List ℕ) → end ≡ composeWork (length output) (length f) → composeWork mostPlaces mostPlaces ≡ length work → end ≤ length work
   work-fits work counted size = omega (arith, lists-few)
 
   pub composition : {output′ work work′ : List ℕ} {named p number weight′ : ℕ} → named ≡ field file 0 → p ≡ field file 1
@@ -97,13 +83,13 @@ jobTests file =
 
 module _ {file : List ℕ} (accepted : Accepted file) where
   few-tests : composeNumber file ≡ first (jobTests file)
-  unfolding composeNumber composeRefusal first limit notPlaces test tooLong
+  unfolding composeNumber composeRefusal first notPlaces test tooLong
   few-tests =
       let outer-count = small-outer accepted in
       let inner-count = small-inner accepted in
       rw (
-        le-ltb 4096 (length (outer file)) (rw length-outer (omega arith)),
-        le-ltb 4096 (length (inner file)) (rw length-inner (omega arith)),
+        le-ltb limit (length (outer file)) (rw length-outer (omega arith)),
+        le-ltb limit (length (inner file)) (rw length-inner (omega arith)),
         eq-eqb (order file) (order file) refl,
         length-outer,
         le-ltb (composeWork (order file) (field file 3)) (composeWork (order file) (field file 3)) (omega arith),

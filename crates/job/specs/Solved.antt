@@ -18,7 +18,7 @@ use mathlib.Core.List.{List, _++_}
 use mathlib.Core.Path.{_≡_, refl, sym, ap, _∙_}
 use Rattle.definition.specs.Answer.{answered, kept, overwritten}
 use Rattle.definition.specs.Calls.{Job, Render}
-use Rattle.definition.specs.Job.{cutShort, field, inner, jobRefusal, jobText, modulus, order, outer, route, tooLarge}
+use Rattle.definition.specs.Job.{cutShort, field, inner, jobRefusal, jobText, modulus, mostPlaces, order, outer, route, tooLarge}
 use Rattle.definition.specs.Refusal.{badOrder, first, limit, notPlaces, renderRefusal, test}
 use Rattle.definition.specs.Substitution.{composed}
 use Rattle.definition.specs.Text.{rendered}
@@ -37,7 +37,7 @@ pub record Result (file l : List ℕ) (n weight′ : ℕ) : Type 0 where
 
 pub record Solution (file output : List ℕ) (number n weight′ : ℕ) : Type 0 where
   pub refusal : number ≡ jobRefusal file
-  pub small : n ≤ 64
+  pub small : n ≤ mostPlaces
   pub fits : n ≤ length output
   pub result : number ≡ 0 → Result file (take n output) n weight′
 
@@ -77,18 +77,18 @@ module _ {file : List ℕ} (accepted : Accepted file) where
 
 -- an answer that rendering accepts, and that has room in 731 bytes
 pub record Printable (number n : ℕ) (l : List ℕ) : Type 0 where
-  pub small : n ≤ 64
+  pub small : n ≤ mostPlaces
   pub places : length l ≡ n
   pub positive : number ≡ 0 → 0 < n
 
-length-rendered : (number n weight′ : ℕ) (l : List ℕ) → n < 100 → number < 2 ^ 32 → weight′ < 2 ^ 64 → length l ≤ 64
+length-rendered : (number n weight′ : ℕ) (l : List ℕ) → n < 100 → number < 2 ^ 32 → weight′ < 2 ^ mostPlaces → length l ≤ mostPlaces
     → ((i : ℕ) → i < length l → getD l i 0 < 2 ^ 32) → length (rendered number n weight′ l) ≤ 731
 length-rendered zero n weight′ l order word long few below = accepted-length n weight′ l order long few below
 length-rendered (suc number) n weight′ l order word long few below = omega (arith, refused-length (suc number) n weight′ l (omega arith) word)
 
 module _ {number n : ℕ} {l : List ℕ} (printable : Printable number n l) where
   not-refused : (bytes text : ℕ) → bytes ≤ text → renderRefusal number n (length l) bytes text ≡ 0
-  unfolding badOrder first limit notPlaces renderRefusal test
+  unfolding badOrder first notPlaces renderRefusal test
   not-refused bytes text room = go number (printable .positive)
     where
       go : (r : ℕ) → (r ≡ 0 → 0 < n) → renderRefusal r n (length l) bytes text ≡ 0
@@ -96,17 +96,17 @@ module _ {number n : ℕ} {l : List ℕ} (printable : Printable number n l) wher
           let above = positive refl in
           rw (
             ne-eqb n 0 (λ e. omega arith),
-            le-ltb 4096 n (omega (arith, printable .small)),
+            le-ltb limit n (omega (arith, printable .small)),
             eq-eqb (length l) n (printable .places),
             le-ltb text bytes room,
           )
       go (suc r) positive = rw (ne-eqb (suc r) 0 (λ e. omega arith), le-ltb text bytes room)
 
-  pub printed : {weight′ : ℕ} {text text′ : List ℕ} {number′ count : ℕ} → number < 2 ^ 32 → weight′ < 2 ^ 64
+  pub printed : {weight′ : ℕ} {text text′ : List ℕ} {number′ count : ℕ} → number < 2 ^ 32 → weight′ < 2 ^ mostPlaces
       → ((i : ℕ) → getD l i 0 < 2 ^ 32) → length text ≡ 731 → Render number n weight′ l text text′ number′ count
       → Render number n weight′ l text text′ 0 count
   printed {weight′} {text} {text′} {number′} {count} word long below size r =
-      let few : length l ≤ 64 = omega (arith, printable .small, printable .places) in
+      let few : length l ≤ mostPlaces = omega (arith, printable .small, printable .places) in
       let order : n < 100 = omega (arith, printable .small) in
       let fits = length-rendered number n weight′ l order word long few (λ i inside. below i) in
       let none : number′ ≡ 0 = r .refusal ∙ not-refused _ (length text) (rw size fits) in

@@ -5,7 +5,8 @@ ghost use mathlib.Core.Path.{_≡_};
 ghost use Prim.Native.Nat.{_+_, _*_, _<_, _≤_};
 ghost use lib.ListN.{length};
 ghost use Rattle.definition.specs.Calls.{Job, Render};
-ghost use Rattle.definition.specs.Job.{cutShort, field, listAt, misplaced, order, tooLarge, word};
+ghost use Rattle.definition.specs.Job.{cutShort, field, listAt, misplaced, mostPlaces, order, tooLarge, word};
+ghost use Rattle.definition.specs.Refusal.{composeWork};
 ghost use Rattle.job.specs.File.{Accepted, Front, Stated};
 ghost use Rattle.job.specs.Run.{Composition, Lists};
 ghost use Rattle.job.specs.Solved.{Printable, Solution};
@@ -13,10 +14,15 @@ ghost use Rattle.job.specs.Solved.{Printable, Solution};
 // The bytes of the header, and of the longest file.
 const HEADER: usize = 28;
 
-const MOST_BYTES: usize = 4096;
+pub const MOST_BYTES: usize = 4096;
 
-// The largest order and count that a header may state.
-const MOST_PLACES: u32 = 64;
+// The largest order and count that a header may state, also as a number of the header.
+const MOST_PLACES: usize = 64;
+
+const MOST_STATED: u32 = MOST_PLACES as u32;
+
+// The work for the largest order and count.
+const MOST_WORK: usize = (route::WORK_PER_POWER + route::WORK_PER_COEFFICIENT) * MOST_PLACES;
 
 // The bytes of the longest answer: `ok `, 2 digits of order, a space, 20 digits of weight, a line end, and 64 coefficients of 10 digits, each
 // with a space or a line end after it.
@@ -48,7 +54,7 @@ fn field(file: &[u8], k: usize) -> u32
     word(file, 4 * k)
 }
 
-// Whether the file is longer than 4096 bytes, or its header, if it is whole, states an order or a count above 64.
+// Whether the file is longer than the longest, or its header, if it is whole, states too large an order or count.
 fn too_large(file: &[u8]) -> bool
     ensures { λ r. ⌜ r ≡ tooLarge (now (file .entry)) ⌝ }
 {
@@ -58,13 +64,13 @@ fn too_large(file: &[u8]) -> bool
     if file.len() < HEADER {
         return false;
     }
-    if field(file, 2) > MOST_PLACES {
+    if field(file, 2) > MOST_STATED {
         return true;
     }
-    if field(file, 3) > MOST_PLACES {
+    if field(file, 3) > MOST_STATED {
         return true;
     }
-    field(file, 5) > MOST_PLACES
+    field(file, 5) > MOST_STATED
 }
 
 // Whether a list is not empty, and begins in the header or does not lie wholly in the file.
@@ -117,18 +123,18 @@ fn read_stated(file: &[u8], k: usize, list: &mut [u32]) -> usize
     count
 }
 
-// 64 zeros, for a list or the output.
-fn places() -> [u32; 64]
-    ensures { λ r. ⌜ 64 ≡ length r ⌝ }
+// Zeros for a list or the output.
+fn places() -> [u32; MOST_PLACES]
+    ensures { λ r. ⌜ mostPlaces ≡ length r ⌝ }
 {
-    [0; 64]
+    [0; MOST_PLACES]
 }
 
-// 8704 zeros: the work for 64 places and 64 coefficients.
-fn work_places() -> [u32; 8704]
-    ensures { λ r. ⌜ 8704 ≡ length r ⌝ }
+// Zeros for the work.
+fn work_places() -> [u32; MOST_WORK]
+    ensures { λ r. ⌜ composeWork mostPlaces mostPlaces ≡ length r ⌝ }
 {
-    [0; 8704]
+    [0; MOST_WORK]
 }
 
 // Composes the lists of a file that the tests 12 and 13 let pass, into an output of exactly n places.
@@ -171,7 +177,7 @@ struct Solved {
 
 // Solves the job of a file; where the number is 0, the first n places of `output` are the composition.
 fn solve(file: &[u8], output: &mut [u32]) -> Solved
-    requires { ⌜ 64 ≡ length (now output) ⌝ }
+    requires { ⌜ mostPlaces ≡ length (now output) ⌝ }
     ensures { λ r. ⌜ Solution (now (file .entry)) (now (output .exit)) (r .number) (r .order) (r .weight) ⌝ }
 {
     if too_large(file) {

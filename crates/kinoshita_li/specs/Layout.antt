@@ -5,6 +5,7 @@
 -- Assumes nothing.
 use Prim.Native.Nat.{ℕ, _+_, _-_, _*_, _^_, _<_, _≤_}
 use Rattle.definition.specs.Lists.{ceilDiv}
+use Rattle.definition.specs.Refusal.{limit}
 use Rattle.definition.specs.Weight.{degreeBound}
 use Rattle.kinoshita_li.specs.declared.level.Layout.{Layout}
 
@@ -28,8 +29,8 @@ layoutOf r q d m =
     }
 
 pub record Bounded (r q d m : ℕ) : Type 0 where
-  pub order : r ≤ 4096
-  pub outer : m ≤ 4096
+  pub order : r ≤ limit
+  pub outer : m ≤ limit
   pub degree : q < m
   pub low : d < m
   pub places : layoutOf r q d m .below .at < 2 ^ 64

@@ -21,6 +21,7 @@ use Rattle.algebra.specs.KinoshitaLiLists.{graeffe-list, levels-list}
 use Rattle.buffer.specs.Written.{length-part}
 use Rattle.definition.specs.KinoshitaLi.{numerator, opposite, plane, planeAt, quotient, window}
 use Rattle.definition.specs.Lists.{ceilDiv, coefficient}
+use Rattle.definition.specs.Refusal.{limit}
 use Rattle.definition.specs.Weight.{degreeBound, kinoshitaLiLevels}
 use Rattle.product.specs.Planes.{held}
 use Rattle.product.specs.Segments.{segment, segment-segment}
@@ -36,9 +37,9 @@ use Rattle.kinoshita_li.specs.declared.level.Layout.{Layout}
 pub record LevelLent (p levels r q d : ℕ) (f w : List ℕ) : Type 0 where
   pub modulus : 0 < p
   pub positive : 0 < r
-  pub order : r ≤ 4096
+  pub order : r ≤ limit
   pub halvings : r ≤ 2 ^ levels
-  pub outer : length f ≤ 4096
+  pub outer : length f ≤ limit
   pub degree : q < length f
   pub low : d < length f
   pub kept : length f ≤ d + (q + 1)

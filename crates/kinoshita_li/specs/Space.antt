@@ -3,7 +3,7 @@
 --   levelPlaces K m r q d   the places of K levels from order r on: Q in q + 1 rows of r places, m - d rows of the result, Q(-x, y), and the
 --                           rows of a product; at the last level Q, the quotient and what it is formed with
 --   level-rows              Q and the result lie in them
---   level-places            they are at most 128 n + 8 m
+--   level-places            they are at most the work of a composition
 -- Assumes nothing.
 use Prim.Native.Nat.{ℕ, zero, suc, _+_, _-_, _*_, _^_, _<_, _≤_, min}
 use native.Mathlib.Nat.{mul-le-mul-left, mul-le-mul-right, mul-suc, pow-suc}
@@ -11,6 +11,7 @@ use native.Mathlib.Omega.{arith, by-contra}
 use mathlib.Core.Path.{_≡_, refl}
 use Rattle.algebra.specs.Halvings.{halvings-covers, halvings-least}
 use Rattle.definition.specs.Lists.{ceilDiv}
+use Rattle.definition.specs.Refusal.{composeWork, limit}
 use Rattle.definition.specs.Weight.{degreeBound, halvings}
 
 unfoldable pub levelPlaces : ℕ → ℕ → ℕ → ℕ → ℕ → ℕ
@@ -43,8 +44,8 @@ module _ (n m : ℕ) (outer : 0 < m) where
             (omega (arith, rw pow-suc at levels)) (omega arith) (omega arith) (omega arith) (omega arith),
       )
 
-pub level-places : (n m : ℕ) → 0 < n → n ≤ 4096 → 0 < m
-    → levelPlaces (halvings n) m n (min 1 (m - 1)) (m - 1) ≤ 128 * n + 8 * m
+pub level-places : (n m : ℕ) → 0 < n → n ≤ limit → 0 < m
+    → levelPlaces (halvings n) m n (min 1 (m - 1)) (m - 1) ≤ composeWork n m
 level-places n m positive order outer =
     omega (
       arith,

@@ -24,11 +24,11 @@ use Rattle.algebra.specs.Lists.{coefficient-beyond, length-tabulate}
 use Rattle.algebra.specs.Rows.{length-plane}
 use Rattle.definition.specs.KinoshitaLi.{denominator, plane}
 use Rattle.definition.specs.Lists.{tabulate}
-use Rattle.definition.specs.Refusal.{composeWork}
+use Rattle.definition.specs.Refusal.{composeWork, limit}
 use Rattle.definition.specs.Substitution.{composed, constant}
 use Rattle.definition.specs.Weight.{halvings, kinoshitaLiWeight}
 use Rattle.product.specs.Segments.{segment}
-use Rattle.route.specs.Contract.{Lent, Route, lent-places, route-moved}
+use Rattle.route.specs.Contract.{Lent, Route, route-moved}
 use Rattle.route.specs.Table.{written-table}
 use Rattle.route.specs.Within.{Within, segment-sets, within-sets, within-wider}
 use Rattle.kinoshita_li.specs.Level.{LevelLent, Levelled}
@@ -37,9 +37,9 @@ use Rattle.kinoshita_li.specs.Space.{level-places, level-rows}
 pub record FractionLent (p n q : ℕ) (f w : List ℕ) : Type 0 where
   pub modulus : 0 < p
   pub positive : 0 < n
-  pub order : n ≤ 4096
+  pub order : n ≤ limit
   pub some : 0 < length f
-  pub outer : length f ≤ 4096
+  pub outer : length f ≤ limit
   pub first : q ≡ min 1 (length f - 1)
   pub work : composeWork n (length f) ≤ length w
 
@@ -49,7 +49,6 @@ pub record Fraction (p n q : ℕ) (f g after : List ℕ) (result : ℕ) : Type 0
 
 module _ {p n q : ℕ} {f w : List ℕ} (lent : FractionLent p n q f w) where
   pub first-level : {v : List ℕ} → length v ≡ length w → LevelLent p (halvings n) n q (length f - 1) f v
-  unfolding composeWork
   first-level {v} size = record {
     modulus = lent .modulus;
     positive = lent .positive;
@@ -83,9 +82,9 @@ module _ {p n q : ℕ} {f w : List ℕ} (lent : FractionLent p n q f w) where
 
 pub none-done : {p n : ℕ} (f g w : List ℕ) {after : List ℕ} → Lent p n (length f) (length w) → length f ≡ 0
     → after ≡ sets w 0 (tabulate n (constant 0)) → Route p n f g (kinoshitaLiWeight n (length f)) w after 0
-unfolding kinoshitaLiWeight composeWork
+unfolding kinoshitaLiWeight
 none-done {p} {n} f g w lent empty put = record {
-  value = rw put (written-table w 0 (constant 0) n (omega (arith, lent-places lent))) ∙ zeros;
+  value = rw put (written-table w 0 (constant 0) n (omega (arith, lent .enough))) ∙ zeros;
   sum = rw (eq-eqb (length f) 0 empty);
   within = rw put (within-sets w 0 (tabulate n (constant 0)) (le-refl 0) (rw length-tabulate (omega arith)));
 }
@@ -100,7 +99,6 @@ module _ {p n : ℕ} (f w : List ℕ) {places : ℕ} (lent : Lent p n (length f)
   module _ {q : ℕ} (some : 0 < length f) (first : q ≡ min 1 (length f - 1)) where
     -- the rows of Q and the result lie in the places lent
     pub rows-inside : (q + 1) * n + n ≤ places
-    unfolding composeWork
     rows-inside = omega (arith, counted, mul-le-mul-right {m = q + 1} {n = 2} n (omega arith))
 
     pub fraction-lent : FractionLent p n q f (take places w)

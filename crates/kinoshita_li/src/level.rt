@@ -5,6 +5,7 @@ use product::Rows;
 use product::Weight;
 ghost use mathlib.Core.Path.{_≡_};
 ghost use Prim.Native.Nat.{_<_, _≤_};
+ghost use Rattle.definition.specs.Refusal.{limit};
 ghost use Rattle.definition.specs.Weight.{degreeBound};
 ghost use Rattle.kinoshita_li.specs.Graeffe.{Expanded, Graeffe, Parts};
 ghost use Rattle.kinoshita_li.specs.Level.{LevelLent, Levelled};
@@ -12,7 +13,7 @@ ghost use Rattle.kinoshita_li.specs.Layout.{Bounded, layoutOf};
 
 // The bound on the degree of Q in y one level down: q doubled, up to m - 1.
 fn degree_bound(m: usize, q: usize) -> usize
-    requires { ⌜ (q < m) × (m ≤ 4096) ⌝ }
+    requires { ⌜ (q < m) × (m ≤ limit) ⌝ }
     ensures { λ r. ⌜ r ≡ degreeBound m q ⌝ }
 {
     number::smaller(2 * q, m - 1)
@@ -126,15 +127,7 @@ fn last(p: u32, q: usize, d: usize, f: &[u32], w: &mut [u32])
     let t = q + 1;
     division::numerator(f, w, t);
     division::divide(p, m, t, w);
-    rows::window(
-        1,
-        w,
-        Rows {
-            at: t,
-            count: m,
-        },
-        d,
-    );
+    rows::window(1, w, Rows { at: t, count: m }, d);
 }
 
 // Leaves the powers of y from d to m - 1 of P / Q, below x^r, behind the Q in the first q + 1 rows of r places.

@@ -25,6 +25,7 @@ use mathlib.Core.Path.{_≡_, ap, _∙_}
 use lib.ListN.{length}
 use lib.Pow.{pow-mono}
 use Rattle.definition.specs.Ranged.{block, cutPower}
+use Rattle.definition.specs.Refusal.{limit}
 use Rattle.definition.specs.Substitution.{composed}
 use Rattle.definition.specs.Weight.{hornerWeight}
 use Rattle.horner.specs.Part.{Part, PartOperands}
@@ -37,10 +38,10 @@ use Rattle.ranged.specs.Spans.{length-block, length-span, span, span-alo
 pub record SpanOperands (p n b level j t : ℕ) (f w : List ℕ) : Type 0 where
   pub modulus : 0 < p
   pub positive : 0 < n
-  pub order : n ≤ 4096
-  pub outer : length f ≤ 4096
+  pub order : n ≤ limit
+  pub outer : length f ≤ limit
   pub some : 0 < b
-  pub limit : b ≤ 64
+  pub short : b ≤ 64
   pub levels : level ≤ 12
   pub begins : b * j ≤ length f
   pub apart : (level + 1) * n ≤ t
@@ -80,22 +81,22 @@ pub next-small : {p n b level j t : ℕ} {f u : List ℕ} → SpanOperands p n b
 next-small {b = b} {j = j} pre k low =
     let small : j + 2 ^ k ≤ 8192 =
     omega (arith, pow-mono low, mul-le-mul-right j (pre .some), pre .begins, pre .outer) in
-    (small, mul-le-mul (pre .limit) small)
+    (small, mul-le-mul (pre .short) small)
 
 pub part-room : {p n b level j t : ℕ} {f u : List ℕ} → SpanOperands p n b level j t f u → t + 2 * n ≤ length u
 part-room {n = n} {level} pre =
     let least : 2 * n ≤ (level + 2) * n = mul-le-mul-right n (omega arith) in
     omega (arith, pre .room)
 
-pub span-small : {p n b level j t r : ℕ} {f u v : List ℕ} → n ≤ 4096 → length f ≤ 4096
-    → SpanPart p n b level j t f u v r → r ≤ 4096 * 4096
+pub span-small : {p n b level j t r : ℕ} {f u v : List ℕ} → n ≤ limit → length f ≤ limit
+    → SpanPart p n b level j t f u v r → r ≤ limit * limit
 unfolding hornerWeight
 span-small {b = b} {level} {j} {f = f} order outer part =
-    rw (part .sum) (mul-le-mul {n₂ = 4096} (omega (arith, length-span b f level j)) order)
+    rw (part .sum) (mul-le-mul {n₂ = limit} (omega (arith, length-span b f level j)) order)
 
 -- the weights of two spans, and of the product that joins them
-pub join-small : {p n b k l i j s t q r : ℕ} {f u v x y : List ℕ} → n ≤ 4096 → length f ≤ 4096
-    → SpanPart p n b k i s f u v q → SpanPart p n b l j t f x y r → q + r + n ≤ 8193 * 4096
+pub join-small : {p n b k l i j s t q r : ℕ} {f u v x y : List ℕ} → n ≤ limit → length f ≤ limit
+    → SpanPart p n b k i s f u v q → SpanPart p n b l j t f x y r → q + r + n ≤ (2 * limit + 1) * limit
 join-small order outer even odd = omega (arith, span-small order outer even, span-small order outer odd)
 
 module _ {p n b level below j t : ℕ} {f u : List ℕ} (e : level ≡ suc below) (pre : SpanOperands p n b level j t f u) where
@@ -113,7 +114,7 @@ module _ {p n b level below j t : ℕ} {f u : List ℕ} (e : level ≡ suc below
     order = pre .order;
     outer = pre .outer;
     some = pre .some;
-    limit = pre .limit;
+    short = pre .short;
     levels = omega (arith, pre .levels);
     begins = pre .begins;
     apart = omega (arith, lower, next-place n level, pre .apart);
@@ -140,7 +141,7 @@ module _ {p n b level below j t : ℕ} {f u : List ℕ} (e : level ≡ suc below
       order = pre .order;
       outer = pre .outer;
       some = pre .some;
-      limit = pre .limit;
+      short = pre .short;
       levels = omega (arith, pre .levels);
       begins = omega arith;
       apart = omega (arith, lower, next-place n level, pre .apart);

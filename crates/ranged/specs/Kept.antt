@@ -30,6 +30,7 @@ use lib.Count.{leadingZeros, ones, onesIn}
 use lib.ListN.{length}
 use lib.Seq.{sets}
 use Rattle.definition.specs.Ranged.{blockLength, cutPower}
+use Rattle.definition.specs.Refusal.{limit}
 use Rattle.definition.specs.Substitution.{cutProduct}
 use Rattle.definition.specs.Weight.{powerProducts}
 use Rattle.product.specs.Segments.{segment, Apart}
@@ -43,8 +44,8 @@ pub record Holds (p n b : ℕ) (g : List ℕ) (count : ℕ) (w : List ℕ) : Typ
 
 pub record PowerOperands (p n rounds : ℕ) (w : List ℕ) : Type 0 where
   pub modulus : 0 < p
-  pub order : n ≤ 4096
-  pub limit : rounds ≤ 12
+  pub order : n ≤ limit
+  pub few : rounds ≤ 12
   pub room : (rounds + 2) * n ≤ length w
 
 pub record BasePower (p n b : ℕ) (before after : List ℕ) (result : ℕ) : Type 0 where
@@ -119,7 +120,7 @@ within-product {p} {n} {a} {b} {t} {v} {w} product low high =
     rw (product .written)
     (within-sets v t (cutProduct p n (segment v a n) (segment v b n)) low (rw length-cutProduct high))
 
-pub square-operands : {p n a t : ℕ} {w : List ℕ} → 0 < p → n ≤ 4096 → Apart w a n t n → Operands p n a a t w
+pub square-operands : {p n a t : ℕ} {w : List ℕ} → 0 < p → n ≤ limit → Apart w a n t n → Operands p n a a t w
 square-operands l order apart = record { modulus = l; order = omega arith; left = apart; right = apart }
 
 module _ {p n rounds : ℕ} {u : List ℕ} (pre : PowerOperands p n rounds u) where
@@ -130,7 +131,7 @@ module _ {p n rounds : ℕ} {u : List ℕ} (pre : PowerOperands p n rounds u) wh
   first-operands some = record {
     modulus = pre .modulus;
     order = pre .order;
-    limit = omega arith;
+    few = omega arith;
     room = le-trans (mul-le-mul-right n (omega arith)) (pre .room);
   }
 

@@ -18,6 +18,7 @@ use lib.Dec.{leb}
 use Rattle.algebra.specs.Halvings.{halvings-1, halvings-least, halvings-suc}
 use Rattle.algebra.specs.Lists.{ceilDiv-below}
 use Rattle.definition.specs.Lists.{ceilDiv}
+use Rattle.definition.specs.Refusal.{limit}
 use Rattle.definition.specs.Weight.{halvings, hornerWeight, joinProducts, powerProducts, rangedProducts, rangedWeight}
 
 unfoldable pub powersProducts : ℕ → ℕ → ℕ
@@ -61,12 +62,12 @@ module _ (b m : ℕ) (positive : 0 < b) where
   unfolding rangedWeight hornerWeight
   ranged-weight n = rw (ranged-products, add-mul)
 
-  pub few-rounds : m ≤ 4096 → halvings (ceilDiv m b) ≤ 12
+  pub few-rounds : m ≤ limit → halvings (ceilDiv m b) ≤ 12
   few-rounds short =
       by-contra (halvings (ceilDiv m b)) 12 λ many.
-      omega (arith, ceilDiv-below positive m 4096 .0 (halvings-least (ceilDiv m b) 12 many), mul-le-mul-left 4096 positive)
+      omega (arith, ceilDiv-below positive m limit .0 (halvings-least (ceilDiv m b) 12 many), mul-le-mul-left limit positive)
 
 pub few-products : (b rounds : ℕ) → b ≤ 64 → rounds ≤ 12 → powersProducts b rounds ≤ 50
 unfolding powersProducts powerProducts
-few-products b zero limit few = omega arith
-few-products b (suc rounds) limit few = omega (arith, ones-le 7 b (omega arith))
+few-products b zero short few = omega arith
+few-products b (suc rounds) short few = omega (arith, ones-le 7 b (omega arith))

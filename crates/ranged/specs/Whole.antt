@@ -18,10 +18,11 @@ use mathlib.Core.Logic.{inl}
 use mathlib.Core.Path.{_≡_, _∙_}
 use lib.ListN.{length}
 use Rattle.definition.specs.Lists.{ceilDiv}
+use Rattle.definition.specs.Refusal.{limit}
 use Rattle.definition.specs.Substitution.{composed}
 use Rattle.definition.specs.Weight.{halvings, rangedWeight}
 use Rattle.product.specs.Segments.{segment}
-use Rattle.route.specs.Contract.{Lent, lent-places}
+use Rattle.route.specs.Contract.{Lent}
 use Rattle.route.specs.Within.{Within, segment-within, within-trans, within-wider}
 use Rattle.ranged.specs.Joins.{SpanOperands, SpanPart, span-small}
 use Rattle.ranged.specs.Kept.{PowerOperands, Powers}
@@ -40,8 +41,8 @@ module _ {p n b levels work : ℕ} (f : List ℕ) (lent : Lent p n (length f) wo
   whole-powers size = record {
     modulus = lent .modulus;
     order = lent .order;
-    limit = whole-levels;
-    room = omega (arith, whole-places .1, lent-places lent, size);
+    few = whole-levels;
+    room = omega (arith, whole-places .1, lent .enough, size);
   }
 
   module _ {u v : List ℕ} {r : ℕ} (made : Powers p n b levels v u r) where
@@ -55,11 +56,11 @@ module _ {p n b levels work : ℕ} (f : List ℕ) (lent : Lent p n (length f) wo
       order = lent .order;
       outer = lent .outer;
       some = bounds .0;
-      limit = bounds .1;
+      short = bounds .1;
       levels = whole-levels;
       begins = rw mul-zero (omega arith);
       apart = le-refl ((levels + 1) * n);
-      room = omega (arith, whole-places, lent-places lent, size, made .within .size);
+      room = omega (arith, whole-places, lent .enough, size, made .within .size);
       powers = rw inner-kept (made .value);
     }
 
@@ -80,7 +81,7 @@ module _ {p n b levels work : ℕ} (f : List ℕ) (lent : Lent p n (length f) wo
       pub whole-weight : r + s ≡ rangedWeight b n (length f)
       whole-weight = rw (ranged-weight b (length f) (bounds .0) n, made .sum, joined .sum, all, ← number) (add-comm _ _)
 
-      pub whole-small : r + s ≤ 4146 * 4096
+      pub whole-small : r + s ≤ (limit + 50) * limit
       whole-small =
           omega (
             arith,

@@ -6,6 +6,7 @@ ghost use lib.ListN.{length};
 ghost use Prim.Native.Nat.{_+_, _*_, _^_, _<_, _≤_, min};
 ghost use Rattle.definition.specs.Lists.{ceilDiv};
 ghost use Rattle.definition.specs.Ranged.{block, blockLength};
+ghost use Rattle.definition.specs.Refusal.{limit};
 ghost use Rattle.definition.specs.Weight.{halvings, rangedWeight};
 ghost use Rattle.horner.specs.Part.{Part};
 ghost use Rattle.route.specs.Contract.{Lent, Route};
@@ -55,7 +56,7 @@ fn powers(p: u32, n: usize, rounds: usize, w: &mut [u32]) -> Weight
 
 // The number of rounds in which m places, in blocks of b, are joined.
 fn rounds(m: usize, b: usize) -> usize
-    requires { ⌜ (m ≤ 4096) × (0 < b) × (b ≤ 64) ⌝ }
+    requires { ⌜ (m ≤ limit) × (0 < b) × (b ≤ 64) ⌝ }
     ensures { λ r. ⌜ r ≡ halvings (ceilDiv m b) ⌝ }
 {
     number::halvings((m + (b - 1)) / b)

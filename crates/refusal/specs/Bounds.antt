@@ -17,23 +17,7 @@ use mathlib.Core.Path.{_≡_, refl}
 use Rattle.algebra.specs.Prime.{prime-positive}
 use Rattle.definition.specs.Lists.{coefficient}
 use Rattle.definition.specs.Prime.{Prime, largestModulus}
-use Rattle.definition.specs.Refusal.{
-  badModulus,
-  badOrder,
-  composeRefusal,
-  composeWork,
-  cycleRefusal,
-  cycleWork,
-  exceeds,
-  first,
-  hasConstant,
-  irreversible,
-  mostCycles,
-  openRefusal,
-  renderRefusal,
-  reverseRefusal,
-  test,
-}
+use Rattle.definition.specs.Refusal.{badModulus, badOrder, composeRefusal, composeWork, cycleRefusal, cycleWork, exceeds, first, hasConstant, irreversible, limit, mostCycles, openRefusal, renderRefusal, reverseRefusal, test}
 use Rattle.field.specs.Opening.{good-modulus}
 use Rattle.refusal.specs.Tests.{
   Passed,
@@ -54,13 +38,13 @@ pub record FieldBounds (p n : ℕ) : Type 0 where
   pub prime : Prime p
   pub largest : p ≤ largestModulus
   pub positive : 0 < n
-  pub order : n ≤ 4096
+  pub order : n ≤ limit
 
 pub record ComposeBounds (route p n : ℕ) (f g : List ℕ) (places work : ℕ) : Type 0 where
   pub named : (0 < route) × (route ≤ 4)
   pub field : FieldBounds p n
-  pub outer : length f ≤ 4096
-  pub inner : length g ≤ 4096
+  pub outer : length f ≤ limit
+  pub inner : length g ≤ limit
   pub output : places ≡ n
   pub enough : composeWork n (length f) ≤ work
   pub below-outer : exceeds p f ≡ false
@@ -68,7 +52,7 @@ pub record ComposeBounds (route p n : ℕ) (f g : List ℕ) (places work : ℕ) 
 
 pub record ReverseBounds (p n : ℕ) (g : List ℕ) (places work : ℕ) : Type 0 where
   pub field : FieldBounds p n
-  pub inner : length g ≤ 4096
+  pub inner : length g ≤ limit
   pub output : places ≡ n
   pub enough : composeWork n (length g) ≤ work
   pub below : exceeds p g ≡ false
@@ -81,7 +65,7 @@ pub record OpenBounds (p n places : ℕ) : Type 0 where
 pub record CycleBounds (route p n done : ℕ) (c s : List ℕ) (work : ℕ) : Type 0 where
   pub named : (0 < route) × (route ≤ 4)
   pub field : FieldBounds p n
-  pub outer : length c ≤ 4096
+  pub outer : length c ≤ limit
   pub running : length s ≡ n
   pub enough : cycleWork n (length c) ≤ work
   pub below-outer : exceeds p c ≡ false
@@ -98,7 +82,7 @@ field-bounds {p} {n} modulus order = record {
   order = order-within n order .1;
 }
 
-pub field-lent : {p n m work : ℕ} → FieldBounds p n → m ≤ 4096 → composeWork n m ≤ work → Lent p n m work
+pub field-lent : {p n m work : ℕ} → FieldBounds p n → m ≤ limit → composeWork n m ≤ work → Lent p n m work
 field-lent b outer enough = record {
   modulus = prime-positive (b .prime);
   positive = b .positive;
@@ -174,7 +158,7 @@ pub list-passed : (number n places : ℕ) → first (listTests number n places) 
 unfolding absent test
 list-passed number n places h = passed 2 (listTests number n places) h refl .0
 
-pub list-bounds : {number : ℕ} (n places : ℕ) → number ≡ 0 → Passed (listTests number n places) → (0 < places) × (places ≤ 4096)
+pub list-bounds : {number : ℕ} (n places : ℕ) → number ≡ 0 → Passed (listTests number n places) → (0 < places) × (places ≤ limit)
 unfolding Passed test
 list-bounds n places zero h =
     let told : Passed (listTests 0 n places) = rw zero at h in

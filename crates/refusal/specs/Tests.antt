@@ -163,13 +163,13 @@ pub route-within : (route : ℕ) → badRoute route ≡ false → (0 < route) ×
 unfolding badRoute
 route-within route h = within route 4 h
 
-pub order-within : (n : ℕ) → badOrder n ≡ false → (0 < n) × (n ≤ 4096)
-unfolding badOrder limit
-order-within n h = within n 4096 h
+pub order-within : (n : ℕ) → badOrder n ≡ false → (0 < n) × (n ≤ limit)
+unfolding badOrder
+order-within n h = within n limit h
 
-pub length-within : (l : List ℕ) → tooLong l ≡ false → length l ≤ 4096
-unfolding limit tooLong
-length-within l h = ltb-false 4096 (length l) h
+pub length-within : (l : List ℕ) → tooLong l ≡ false → length l ≤ limit
+unfolding tooLong
+length-within l h = ltb-false limit (length l) h
 
 pub constant-zero : (l : List ℕ) → hasConstant l ≡ false → coefficient l 0 ≡ 0
 unfolding hasConstant

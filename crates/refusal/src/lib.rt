@@ -1,11 +1,14 @@
 // The number that each of the calls compose, reverse, open (of a chain), cycle and render returns, and the places of work of a cycle.
 use field::Field;
 use field::Opened;
+use route::LIMIT;
+use route::WORK_PER_COEFFICIENT;
+use route::WORK_PER_POWER;
 ghost use lib.Dec.{ltb};
 ghost use mathlib.Core.Bool.{_||_};
 ghost use mathlib.Core.List.{[], _∷_};
 ghost use mathlib.Core.Path.{_≡_};
-ghost use Prim.Native.Nat.{_+_, _*_, _<_, _≤_};
+ghost use Prim.Native.Nat.{_<_, _≤_};
 ghost use Rattle.definition.specs.Refusal.{
   badModulus,
   badOrder,
@@ -17,15 +20,20 @@ ghost use Rattle.definition.specs.Refusal.{
   first,
   hasConstant,
   irreversible,
+  limit,
   openRefusal,
   renderRefusal,
   reverseRefusal,
   test,
+  workPlaces,
 };
 ghost use Rattle.refusal.specs.Tests.{fieldTests, listTests, numberAfter, routedTests};
 
-// The largest order, and the longest list that a call takes.
-const LIMIT: usize = 4096;
+// The places of work of a cycle for each power of x below the order. For each coefficient of its list they are those of a composition.
+const CYCLE_WORK_PER_POWER: usize = 144;
+
+// The most cycles of a chain.
+const MOST_CYCLES: u32 = 64;
 
 // What compose, reverse and a cycle answer.
 #[repr(C)]
@@ -51,7 +59,7 @@ fn bad_modulus(p: u32) -> bool
     }
 }
 
-// Whether n is 0 or above 4096.
+// Whether n is 0 or above the limit.
 fn bad_order(n: usize) -> bool
     ensures { λ r. ⌜ r ≡ badOrder n ⌝ }
 {
@@ -84,21 +92,21 @@ fn either_has_constant(a: &[u32], b: &[u32]) -> bool
 
 // The places of work that a cycle of m coefficients asks for.
 pub fn cycle_places(n: usize, m: usize) -> usize
-    requires { ⌜ (n ≤ 4096) × (m ≤ 4096) ⌝ }
+    requires { ⌜ (n ≤ limit) × (m ≤ limit) ⌝ }
     ensures { λ r. ⌜ r ≡ cycleWork n m ⌝ }
 {
-    144 * n + 8 * m
+    CYCLE_WORK_PER_POWER * n + WORK_PER_COEFFICIENT * m
 }
 
-// Whether `work` is below factor * n + 8m, a number that a word need not hold.
+// Whether `work` is below the places of work for order n and m coefficients, a number that a word need not hold.
 fn short_work(factor: usize, n: usize, m: usize, work: usize) -> bool
     requires { ⌜ 0 < factor ⌝ }
-    ensures { λ r. ⌜ r ≡ ltb work (factor * n + 8 * m) ⌝ }
+    ensures { λ r. ⌜ r ≡ ltb work (workPlaces factor n m) ⌝ }
 {
     if work / factor < n {
         true
     } else {
-        (work - factor * n) / 8 < m
+        (work - factor * n) / WORK_PER_COEFFICIENT < m
     }
 }
 
@@ -154,7 +162,7 @@ pub fn compose(
     let number = next_number(routed_number(route, p, n), 4, f.len() > LIMIT);
     let number = next_number(number, 5, g.len() > LIMIT);
     let number = next_number(number, 6, places != n);
-    let number = next_number(number, 7, short_work(128, n, f.len(), work));
+    let number = next_number(number, 7, short_work(WORK_PER_POWER, n, f.len(), work));
     let number = coefficient_number(number, p, f);
     coefficient_number(number, p, g)
 }
@@ -165,7 +173,7 @@ pub fn reverse(p: u32, n: usize, g: &[u32], places: usize, work: usize) -> u32
 {
     let number = next_number(field_number(p, n), 5, g.len() > LIMIT);
     let number = next_number(number, 6, places != n);
-    let number = next_number(number, 7, short_work(128, n, g.len(), work));
+    let number = next_number(number, 7, short_work(WORK_PER_POWER, n, g.len(), work));
     let number = coefficient_number(number, p, g);
     next_number(number, 9, irreversible(n, g))
 }
@@ -183,11 +191,15 @@ pub fn cycle(route: u32, p: u32, n: usize, done: u32, c: &[u32], s: &[u32], work
 {
     let number = next_number(routed_number(route, p, n), 5, c.len() > LIMIT);
     let number = next_number(number, 6, s.len() != n);
-    let number = next_number(number, 7, short_work(144, n, c.len(), work));
+    let number = next_number(
+        number,
+        7,
+        short_work(CYCLE_WORK_PER_POWER, n, c.len(), work),
+    );
     let number = coefficient_number(number, p, c);
     let number = coefficient_number(number, p, s);
     let number = next_number(number, 10, either_has_constant(c, s));
-    next_number(number, 11, done >= 64)
+    next_number(number, 11, done >= MOST_CYCLES)
 }
 
 // The number of the tests that rendering makes of order and list: 3, 6 or 0. A refusal number meets neither.

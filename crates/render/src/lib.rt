@@ -4,6 +4,7 @@ ghost use mathlib.Core.List.{[], _∷_, _++_};
 ghost use mathlib.Core.Path.{_≡_};
 ghost use Prim.Native.Nat.{_+_, _<_, _≤_};
 ghost use Rattle.definition.specs.Calls.{Render};
+ghost use Rattle.definition.specs.Refusal.{limit};
 ghost use Rattle.definition.specs.Text.{accepted, decimal, refused, rendered, space, spaced};
 ghost use Rattle.refusal.specs.Tests.{Passed, listTests};
 ghost use Rattle.render.specs.Writing.{Written};
@@ -34,7 +35,7 @@ fn next_places(coefficient: u32) -> usize
 
 // The count of bytes of the coefficients with single spaces.
 fn spaced_places(list: &[u32]) -> usize
-    requires { ⌜ (0 < length (now list)) × (length (now list) ≤ 4096) ⌝ }
+    requires { ⌜ (0 < length (now list)) × (length (now list) ≤ limit) ⌝ }
     ensures { λ r. ⌜ r ≡ length (spaced (now (list .entry))) ⌝ }
 {
     let mut places = decimal_places(list[0] as u64);
@@ -48,7 +49,7 @@ fn spaced_places(list: &[u32]) -> usize
 
 // The count of bytes of an accepted answer.
 fn accepted_places(n: usize, weight: u64, list: &[u32]) -> usize
-    requires { ⌜ (0 < length (now list)) × (length (now list) ≤ 4096) ⌝ }
+    requires { ⌜ (0 < length (now list)) × (length (now list) ≤ limit) ⌝ }
     ensures { λ r. ⌜ r ≡ length (accepted n weight (now (list .entry))) ⌝ }
 {
     6 + decimal_places(n as u64) + decimal_places(weight) + spaced_places(list)

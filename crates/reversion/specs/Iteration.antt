@@ -22,7 +22,7 @@ use Rattle.definition.specs.Reversion.{Reversion}
 use Rattle.reversion.specs.Newton.{newton-reversion}
 use Rattle.reversion.specs.Start.{started, started-reversion}
 use Rattle.reversion.specs.Step.{Stepped}
-use Rattle.route.specs.Contract.{Lent, lent-places}
+use Rattle.route.specs.Contract.{Lent}
 use Rattle.route.specs.Within.{Within, within-refl, within-trans, within-wider}
 
 pub record Reversible (p : ℕ) (g h w : List ℕ) : Type 0 where
@@ -49,7 +49,6 @@ module _ {p : ℕ} (g h w : List ℕ) (r : Reversible p g h w) where
     size-half = length-take-le half h (omega arith)
 
     pub half-reversible : Reversible p g (take half h) w
-    unfolding composeWork
     half-reversible = record {
       prime = r .prime;
       below = r .below;
@@ -60,7 +59,7 @@ module _ {p : ℕ} (g h w : List ℕ) (r : Reversible p g h w) where
         positive = omega arith;
         order = omega (arith, r .lent .order);
         outer = r .lent .outer;
-        enough = omega (arith, lent-places (r .lent));
+        enough = omega (arith, r .lent .enough);
       };
     }
 
@@ -75,7 +74,6 @@ module _ {p : ℕ} (g h w : List ℕ) (r : Reversible p g h w) where
       step-lent = rw (size, iterated .within .size) (omega arith, r .lent)
 
       pub iterated-step : {h′ now′ : List ℕ} → Stepped p g (v ++ drop half h) h′ now now′ → Iterated p g (length h) h′ w now′
-      unfolding composeWork
       iterated-step {h′} stepped = record {
         reverses =
             rw ((rw size at (stepped .value)))

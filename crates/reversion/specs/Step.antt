@@ -27,7 +27,7 @@ use Rattle.definition.specs.Substitution.{composed, composedAt, constant, cutPr
 use Rattle.product.specs.Segments.{Apart, segment, coefficient-segment, segment-kept}
 use Rattle.product.specs.Single.{Multiplied, Operands}
 use Rattle.reversion.specs.Newton.{derivative, difference, differenceAt, error, newtonStep}
-use Rattle.route.specs.Contract.{Lent, Route, lent-places}
+use Rattle.route.specs.Contract.{Lent, Route}
 use Rattle.route.specs.Filling.{Filling, filling-last, filling-next}
 use Rattle.route.specs.Within.{Within, segment-sets, within-sets, within-trans}
 
@@ -72,7 +72,7 @@ module _ (p n : ℕ) (g h : List ℕ) where
 module _ {p : ℕ} (g h : List ℕ) {before then : List ℕ} where
   pub error-put : {weight result v : ℕ} → 1 < length h → Route p (length h) g h weight before then result
       → v ≡ (getD then 1 0 + negative p 1) % p → ErrorPut p g h before (set then 1 v)
-  unfolding coefficient composeWork
+  unfolding coefficient
   error-put {v = v} above route value = record {
     value =
         take-set-lt (length h) then 1 v above
@@ -107,8 +107,8 @@ pub step-operands : {p n m work : ℕ} {w : List ℕ} → Lent p n m work → le
 step-operands {n = n} lent size = record {
   modulus = lent .modulus;
   order = omega (arith, lent .order);
-  left = record { source = omega (arith, lent-places lent); target = omega (arith, lent-places lent); apart = inl (omega arith) };
-  right = record { source = omega (arith, lent-places lent); target = omega (arith, lent-places lent); apart = inl (omega arith) };
+  left = record { source = omega (arith, lent .enough); target = omega (arith, lent .enough); apart = inl (omega arith) };
+  right = record { source = omega (arith, lent .enough); target = omega (arith, lent .enough); apart = inl (omega arith) };
 }
 
 -- the derivative, the product and the difference after g(h) - x
@@ -118,7 +118,7 @@ module _ {p : ℕ} (g h : List ℕ) {before w₁ w₂ w₃ h′ : List ℕ} {res
       → Multiplied p (length h) 0 (length h) (2 * length h) w₂ w₃ result
       → h′ ≡ difference p (length h) h (segment w₃ (2 * length h) (length h))
       → Stepped p g h h′ before w₃
-  unfolding newtonStep composeWork derivative cutProduct
+  unfolding newtonStep derivative cutProduct
   stepped lent put derived multiplied subtracted = record {
     value = subtracted ∙ ap (difference p n h) product;
     within = within-trans (put .within) (within-trans within-w₂ within-w₃);
@@ -127,21 +127,21 @@ module _ {p : ℕ} (g h : List ℕ) {before w₁ w₂ w₃ h′ : List ℕ} {res
       n : ℕ
       n = length h
 
-      within-w₂ : Within 0 (128 * n + 8 * length g) w₁ w₂
+      within-w₂ : Within 0 (composeWork n (length g)) w₁ w₂
       within-w₂ = rw derived (within-sets w₁ n (derivative p n h) (omega arith) (rw length-tabulate (omega arith)))
 
       size : length w₂ ≡ length before
       size = within-w₂ .size ∙ put .within .size
 
-      within-w₃ : Within 0 (128 * n + 8 * length g) w₂ w₃
+      within-w₃ : Within 0 (composeWork n (length g)) w₂ w₃
       within-w₃ =
           rw (multiplied .written)
           (within-sets w₂ (2 * n) (cutProduct p n (segment w₂ 0 n) (segment w₂ n n)) (omega arith) (rw length-tabulate (omega arith)))
 
       apart : Apart w₁ 0 n n n
       apart = record {
-        source = omega (arith, put .within .size, lent-places lent);
-        target = omega (arith, put .within .size, lent-places lent);
+        source = omega (arith, put .within .size, lent .enough);
+        target = omega (arith, put .within .size, lent .enough);
         apart = inl (omega arith);
       }
 

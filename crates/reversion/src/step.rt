@@ -4,6 +4,7 @@ ghost use mathlib.Core.Path.{_≡_};
 ghost use Prim.Native.Nat.{_+_, _<_, _≤_};
 ghost use lib.ListN.{length};
 ghost use lib.Seq.{sets};
+ghost use Rattle.definition.specs.Refusal.{limit};
 ghost use Rattle.product.specs.Segments.{segment};
 ghost use Rattle.reversion.specs.Newton.{derivative, difference};
 ghost use Rattle.reversion.specs.Step.{ErrorPut, Stepped};
@@ -20,7 +21,7 @@ fn put_error(p: u32, g: &[u32], h: &[u32], w: &mut [u32])
 
 // Writes the derivative of the polynomial h modulo p, as many places as h has, from place t of w on.
 fn put_derivative(p: u32, h: &[u32], w: &mut [u32], t: usize)
-    requires { ⌜ (0 < p) × (length (now h) ≤ 4096) × (t + length (now h) ≤ length (now w)) ⌝ }
+    requires { ⌜ (0 < p) × (length (now h) ≤ limit) × (t + length (now h) ≤ length (now w)) ⌝ }
     ensures { λ _. ⌜ now (w .exit) ≡ sets (now (w .entry)) t (derivative p (length (now (h .entry))) (now (h .entry))) ⌝ }
 {
     let mut k = 0;

@@ -4,7 +4,6 @@
 --   Route                what every route ensures
 --   Finished             the contract of `finish`
 --   copied-segment       a segment that is copied over a whole list
---   lent-places          the places of work that are lent, as a number
 --   put-within           a route that puts g at place 0, and then works after it, works within the places lent
 --   put-composed         f composed with what `put` wrote is f composed with g
 --   route-moved          a route that leaves f(g) at place t of the work buffer, and then moves it to place 0
@@ -22,7 +21,7 @@ use Rattle.algebra.specs.Lists.{coefficient-tabulate, length-tabulate}
 use Rattle.buffer.specs.Written.{length-part}
 use Rattle.definition.specs.Answer.{cleared}
 use Rattle.definition.specs.Lists.{coefficient, tabulate}
-use Rattle.definition.specs.Refusal.{composeWork}
+use Rattle.definition.specs.Refusal.{composeWork, limit}
 use Rattle.definition.specs.Substitution.{composed}
 use Rattle.product.specs.Segments.{segment}
 use Rattle.route.specs.Table.{written-table}
@@ -31,8 +30,8 @@ use Rattle.route.specs.Within.{Within, cleared-within, segment-sets, wit
 pub record Lent (p n m work : ℕ) : Type 0 where
   pub modulus : 0 < p
   pub positive : 0 < n
-  pub order : n ≤ 4096
-  pub outer : m ≤ 4096
+  pub order : n ≤ limit
+  pub outer : m ≤ limit
   pub enough : composeWork n m ≤ work
 
 pub record Route (p n : ℕ) (f g : List ℕ) (weight : ℕ) (before after : List ℕ) (result : ℕ) : Type 0 where
@@ -51,7 +50,6 @@ copied-segment w out h = rw (length-take-le (length out) w h, drop-length, appen
 pub route-moved : {p n : ℕ} {f g : List ℕ} {weight : ℕ} {before then after : List ℕ} {result : ℕ} (t : ℕ)
     → Within 0 (composeWork n (length f)) before then → segment then t n ≡ composed p n f g → result ≡ weight
     → t + n ≤ length then → after ≡ sets then 0 (segment then t n) → Route p n f g weight before after result
-unfolding composeWork
 route-moved {n = n} {then = then} t within value sum fits moved = record {
   value = rw moved (segment-sets then 0 (segment then t n) n size (omega arith) ∙ value);
   sum = sum;
@@ -69,13 +67,8 @@ route-finished {then = then} route fits size done = (
   done .work ∙ cleared-within (within-wider (le-refl 0) (rw (zero-add, zero-add) fits) (route .within)),
 )
 
-pub lent-places : {p n m work : ℕ} → Lent p n m work → 128 * n + 8 * m ≤ work
-unfolding composeWork
-lent-places lent = lent .enough
-
 pub put-within : {n k : ℕ} (m : ℕ) (g w : List ℕ) {u v : List ℕ} → v ≡ sets w 0 (tabulate n (coefficient g)) → Within n k v u
-    → n + k ≤ 128 * n + 8 * m → Within 0 (composeWork n m) w u
-unfolding composeWork
+    → n + k ≤ composeWork n m → Within 0 (composeWork n m) w u
 put-within {n} {k} m g w put h fits =
     within-trans
     (rw put (within-sets w 0 (tabulate n (coefficient g)) (le-refl 0) (rw (length-tabulate, zero-add, zero-add) (omega arith))))

@@ -4,9 +4,17 @@ ghost use Prim.Native.Nat.{_+_, _<_, _≤_};
 ghost use lib.ListN.{length};
 ghost use lib.Seq.{sets};
 ghost use Rattle.definition.specs.Lists.{coefficient, tabulate};
-ghost use Rattle.definition.specs.Refusal.{composeWork};
+ghost use Rattle.definition.specs.Refusal.{composeWork, limit};
 ghost use Rattle.definition.specs.Substitution.{constant};
 ghost use Rattle.route.specs.Contract.{Finished};
+
+// The largest order, and the longest list that a call takes.
+pub const LIMIT: usize = 4096;
+
+// The places of work of a composition: so many for each power of x below the order, and so many for each coefficient of the outer list.
+pub const WORK_PER_POWER: usize = 128;
+
+pub const WORK_PER_COEFFICIENT: usize = 8;
 
 // Coefficient k of a list: 0 past its end.
 pub fn place(l: &[u32], k: usize) -> u32
@@ -48,8 +56,8 @@ pub fn finish(w: &mut [u32], out: &mut [u32], k: usize)
 
 // The places of work that a composition is lent.
 pub fn work_places(n: usize, m: usize) -> usize
-    requires { ⌜ (n ≤ 4096) × (m ≤ 4096) ⌝ }
+    requires { ⌜ (n ≤ limit) × (m ≤ limit) ⌝ }
     ensures { λ r. ⌜ r ≡ composeWork n m ⌝ }
 {
-    128 * n + 8 * m
+    WORK_PER_POWER * n + WORK_PER_COEFFICIENT * m
 }

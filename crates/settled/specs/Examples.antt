@@ -31,21 +31,7 @@ use Rattle.definition.specs.Weight.{
   weight,
 }
 use Rattle.definition.specs.Prime.{indivisible, isPrime, largestModulus}
-use Rattle.definition.specs.Refusal.{
-  test,
-  first,
-  limit,
-  composeWork,
-  badRoute,
-  badModulus,
-  badOrder,
-  tooLong,
-  notPlaces,
-  exceeds,
-  irreversible,
-  composeRefusal,
-  reverseRefusal,
-}
+use Rattle.definition.specs.Refusal.{test, first, composeWork, badRoute, badModulus, badOrder, tooLong, notPlaces, exceeds, irreversible, composeRefusal, reverseRefusal}
 use Rattle.definition.specs.Taylor.{binomial, shiftedTerm, shifted, leastPower, valuation, leadingAt, leading}
 use Rattle.definition.specs.Reversion.{identityAt, identity, Reversion}
 
@@ -102,7 +88,7 @@ examples =
     ∷ []
 
 pub settled : Every examples
-unfolding sum tabulate coefficient ceilDiv productTerm product constant power substitutedTerm substituted composedAt composed blockLength partCount hornerWeight powerProducts joinProducts rangedProducts rangedWeight bernsteinLevels bernsteinWeight degreeBound halvingsFrom halvings kinoshitaLiLevels kinoshitaLiWeight weight lib.Count.ones lib.Count.onesIn lib.Count.leadingZeros indivisible isPrime largestModulus test first limit composeWork badRoute badModulus badOrder tooLong notPlaces exceeds irreversible composeRefusal reverseRefusal binomial shiftedTerm shifted leastPower valuation leadingAt leading identityAt identity
+unfolding sum tabulate coefficient ceilDiv productTerm product constant power substitutedTerm substituted composedAt composed blockLength partCount hornerWeight powerProducts joinProducts rangedProducts rangedWeight bernsteinLevels bernsteinWeight degreeBound halvingsFrom halvings kinoshitaLiLevels kinoshitaLiWeight weight lib.Count.ones lib.Count.onesIn lib.Count.leadingZeros indivisible isPrime largestModulus test first badRoute badModulus badOrder tooLong notPlaces exceeds irreversible composeRefusal reverseRefusal binomial shiftedTerm shifted leastPower valuation leadingAt leading identityAt identity
 settled =
     (refl, refl, refl)
     and (refl, refl, refl)

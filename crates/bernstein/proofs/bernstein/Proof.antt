@@ -4,18 +4,18 @@ use native.Mathlib.Omega.{arith}
 use Prim.Native.Nat.{_+_}
 use mathlib.Core.Path.{_∙_}
 use lib.ListN.{length}
-use Rattle.route.specs.Contract.{lent-places, put-composed, put-within, route-moved}
+use Rattle.route.specs.Contract.{put-composed, put-within, route-moved}
 use Rattle.bernstein.specs.Level.{level-put}
 use Rattle.bernstein.proofs.bernstein.Statement.{statement}
 use Rattle.bernstein.proofs.bernstein.Tie as tie
 
 put-requires : tie.Need-put-requires
-put-requires c κs = omega (arith, lent-places (c .before .before .before .before .pre .0))
+put-requires c κs = omega (arith, c .before .before .before .before .pre .0 .enough)
 
 put-requires-2 : tie.Need-put-requires-2
 put-requires-2 c κs =
     let put = c .before .before .before in
-    omega (arith, lent-places (put .before .before .before .before .before .pre .0), put .put .kept .1 .1 .0)
+    omega (arith, put .before .before .before .before .before .pre .0 .enough, put .put .kept .1 .1 .0)
 
 level-requires : tie.Need-level-requires
 level-requires c κs =
@@ -27,7 +27,7 @@ level-requires c κs =
       positive = start .pre .0 .positive;
       order = start .pre .0 .order;
       outer = start .pre .0 .outer;
-      room = omega (arith, lent-places (start .pre .0), put .put .kept .1 .1 .0, put2 .put2 .kept .1 .1 .0);
+      room = omega (arith, start .pre .0 .enough, put .put .kept .1 .1 .0, put2 .put2 .kept .1 .1 .0);
     }
 
 add-move-down : tie.Need-add-move-down
@@ -42,7 +42,7 @@ move-down-requires c κs =
       omega arith,
       omega (
         arith,
-        lent-places (start .pre .0),
+        start .pre .0 .enough,
         level .level .ensures .within .size,
         put2 .put2 .kept .1 .1 .0,
         put .put .kept .1 .1 .0,
@@ -60,7 +60,7 @@ returns c =
     let put = put2 .before .before .before .before in
     let start = put .before .before .before .before .before in
     let f = start .args .f .now in
-    let fits = lent-places (start .pre .0) in
+    let fits = start .pre .0 .enough in
     let done = level-put f (omega (arith, put .put .kept .1 .1 .0)) (put2 .put2 .ensures) (level .level .ensures) in
     route-moved (start .args .n + length f)
     (put-within (length f) (start .args .g .now) (start .args .w .now) (put .put .ensures) (done .0) (omega arith))

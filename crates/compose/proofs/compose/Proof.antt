@@ -5,7 +5,6 @@ use lib.ListN.{length}
 use mathlib.Core.Path.{sym, _∙_}
 use Rattle.compose.specs.Answered.{bounds-lent, compose-accepted, compose-refused}
 use Rattle.refusal.specs.Bounds.{ComposeBounds, compose-bounds}
-use Rattle.route.specs.Contract.{lent-places}
 use Rattle.compose.proofs.compose.Statement.{statement}
 use Rattle.compose.proofs.compose.Tie as tie
 
@@ -43,7 +42,7 @@ finish-requires c κs =
     let run = c .before .before .before .before .before .before in
     let b = bounds (run .before .before) in
     let size = run .run .kept .1 .1 .1 .1 .1 .0 in
-    (omega (arith, b .output, lent-places (bounds-lent b), size), omega (arith, c .before .before .work-places .ensures, b .enough, size))
+    (omega (arith, b .output, bounds-lent b .enough, size), omega (arith, c .before .before .work-places .ensures, b .enough, size))
 
 same-length : tie.Need-same-length
 same-length c = search needs

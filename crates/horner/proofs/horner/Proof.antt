@@ -4,14 +4,14 @@ use native.Mathlib.Omega.{arith}
 use mathlib.Core.Logic.{inl}
 use mathlib.Core.Path.{_∙_}
 use lib.ListN.{length}
-use Rattle.route.specs.Contract.{lent-places, put-composed, put-within, route-moved}
+use Rattle.route.specs.Contract.{put-composed, put-within, route-moved}
 use Rattle.horner.proofs.horner.Statement.{statement}
 use Rattle.horner.proofs.horner.Tie as tie
 
 put-requires : tie.Need-put-requires
 put-requires c κs =
     let lent = c .before .before .before .before .pre in
-    omega (arith, lent-places lent)
+    omega (arith, lent .enough)
 
 horner-part-requires : tie.Need-horner-part-requires
 horner-part-requires c κs =
@@ -23,8 +23,8 @@ horner-part-requires c κs =
       order = lent .order;
       outer = lent .outer;
       inner = record {
-        source = omega (arith, lent-places lent, put .put .kept .1 .1 .0);
-        target = omega (arith, lent-places lent, put .put .kept .1 .1 .0);
+        source = omega (arith, lent .enough, put .put .kept .1 .1 .0);
+        target = omega (arith, lent .enough, put .put .kept .1 .1 .0);
         apart = inl (omega arith);
       };
     }
@@ -34,7 +34,7 @@ move-down-requires c κs =
     let part = c .before .before .before in
     let put = part .before .before .before .before in
     let lent = put .before .before .before .before .before .pre in
-    (omega arith, omega (arith, lent-places lent, put .put .kept .1 .1 .0, part .horner-part .ensures .within .size))
+    (omega arith, omega (arith, lent .enough, put .put .kept .1 .1 .0, part .horner-part .ensures .within .size))
 
 same-length : tie.Need-same-length
 same-length c = search needs
@@ -46,7 +46,7 @@ returns c =
     let put = part .before .before .before .before in
     let begin = put .before .before .before .before .before in
     let done = part .horner-part .ensures in
-    let fits = lent-places (begin .pre) in
+    let fits = begin .pre .enough in
     route-moved (begin .args .n)
     (put-within (length (begin .args .f .now)) (begin .args .g .now) (begin .args .w .now) (put .put .ensures) (done .within) (omega arith))
     (done .value

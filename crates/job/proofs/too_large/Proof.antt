@@ -4,20 +4,20 @@ use native.Mathlib.Omega.{arith}
 use Prim.Native.Nat.{_<_}
 use lib.ListN.{length}
 use borrow.Author.Tests.{le-ltb, lt-leb, lt-ltb}
-use Rattle.definition.specs.Job.{headerBytes, mostBytes, order, tooLarge}
+use Rattle.definition.specs.Job.{headerBytes, mostBytes, mostPlaces, order, tooLarge}
 use Rattle.job.specs.File.{header-large}
 use Rattle.job.proofs.too_large.Statement.{statement}
 use Rattle.job.proofs.too_large.Tie as tie
 
 returns : tie.Need-returns
-unfolding mostBytes tooLarge
-returns c = rw (lt-ltb 4096 _ (c .if1 .taken))
+unfolding tooLarge
+returns c = rw (lt-ltb mostBytes _ (c .if1 .taken))
 
 returns-2 : tie.Need-returns-2
-unfolding headerBytes mostBytes tooLarge
+unfolding headerBytes tooLarge
 returns-2 c =
     let short : length (c .before .before .before .args .file .now) < 28 = omega (arith, c .if2 .taken) in
-    rw (le-ltb 4096 _ (c .before .if1 .left), lt-leb 28 _ short)
+    rw (le-ltb mostBytes _ (c .before .if1 .left), lt-leb 28 _ short)
 
 field-requires : tie.Need-field-requires
 field-requires c κs = search needs
@@ -26,7 +26,7 @@ returns-3 : tie.Need-returns-3
 unfolding order
 returns-3 c =
     let whole = c .before .before in
-    rw (header-large _ (whole .before .if1 .left) (whole .if2 .left), ← c .before .field .ensures, lt-ltb 64 _ (c .if3 .taken))
+    rw (header-large _ (whole .before .if1 .left) (whole .if2 .left), ← c .before .field .ensures, lt-ltb mostPlaces _ (c .if3 .taken))
 
 field-requires-2 : tie.Need-field-requires-2
 field-requires-2 c κs = search needs
@@ -39,9 +39,9 @@ returns-4 c =
     rw (
       header-large _ (whole .before .if1 .left) (whole .if2 .left),
       ← first .before .field .ensures,
-      le-ltb 64 _ (first .if3 .left),
+      le-ltb mostPlaces _ (first .if3 .left),
       ← c .before .field2 .ensures,
-      lt-ltb 64 _ (c .if4 .taken),
+      lt-ltb mostPlaces _ (c .if4 .taken),
     )
 
 field-requires-3 : tie.Need-field-requires-3
@@ -56,9 +56,9 @@ returns-5 c =
     rw (
       header-large _ (whole .before .if1 .left) (whole .if2 .left),
       ← first .before .field .ensures,
-      le-ltb 64 _ (first .if3 .left),
+      le-ltb mostPlaces _ (first .if3 .left),
       ← second .before .field2 .ensures,
-      le-ltb 64 _ (second .if4 .left),
+      le-ltb mostPlaces _ (second .if4 .left),
       ← c .field3 .ensures,
     )
 

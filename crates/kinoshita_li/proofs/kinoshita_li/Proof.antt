@@ -5,7 +5,6 @@ use Prim.Native.Nat.{_+_, _*_, _<_, _≤_}
 use lib.ListN.{length}
 use lib.Seq.{length-front, length-take-le}
 use mathlib.Core.Path.{sym, _∙_}
-use Rattle.route.specs.Contract.{lent-places}
 use Rattle.kinoshita_li.specs.Whole.{fraction-lent, none-done, places-inside, rows-inside, some-done}
 use Rattle.kinoshita_li.proofs.kinoshita_li.Statement.{statement}
 use Rattle.kinoshita_li.proofs.kinoshita_li.Tie as tie
@@ -13,7 +12,7 @@ use Rattle.kinoshita_li.proofs.kinoshita_li.Tie as tie
 put-constant-requires : tie.Need-put-constant-requires
 put-constant-requires c κs =
     let lent = c .before .before .before .before .before .pre in
-    (lent .positive, omega (arith, lent-places lent))
+    (lent .positive, omega (arith, lent .enough))
 
 none-requires : tie.Need-none-requires
 none-requires c κs = search needs

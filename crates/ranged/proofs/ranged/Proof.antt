@@ -1,7 +1,7 @@
 -- `ranged::ranged` meets its contract: the powers, then the span of all blocks. Assumes nothing.
 use borrow.Author.Needs.{needs}
 use Rattle.definition.specs.Ranged.{blockLength}
-use Rattle.route.specs.Contract.{lent-places, put-composed, put-within, route-moved}
+use Rattle.route.specs.Contract.{put-composed, put-within, route-moved}
 use Rattle.ranged.specs.Whole.{whole-levels, whole-places, whole-powers, whole-small, whole-span, whole-value, whole-weight, whole-within}
 use native.Mathlib.Omega.{arith}
 use Prim.Native.Nat.{_+_, _*_, _<_, _≤_}
@@ -29,7 +29,7 @@ mul-t c =
 put-requires : tie.Need-put-requires
 put-requires c κs =
     let begin = c .before .before .before .before .before in
-    omega (arith, lent-places (begin .pre))
+    omega (arith, begin .pre .enough)
 
 powers-requires : tie.Need-powers-requires
 powers-requires c κs =
@@ -56,7 +56,7 @@ move-down-requires c κs =
     let rounds = put .before .before in
     let begin = rounds .before .before .before .before in
     let size = whole-within (begin .args .f .now) (begin .pre) bounds (rounds .rounds .ensures) (powers .powers .ensures) (span .compose-span .ensures) .size in
-    (omega arith, omega (arith, lent-places (begin .pre), whole-places (begin .args .f .now) (begin .pre) bounds (rounds .rounds .ensures) .0, put .put .kept .1 .1 .0, size))
+    (omega arith, omega (arith, begin .pre .enough, whole-places (begin .args .f .now) (begin .pre) bounds (rounds .rounds .ensures) .0, put .put .kept .1 .1 .0, size))
 
 plus-requires : tie.Need-plus-requires
 unfolding blockLength
@@ -89,9 +89,9 @@ returns c =
     route-moved ((rounds .rounds .result + 1) * begin .args .n)
     (put-within (length f) g w (put .put .ensures) within (omega arith))
     (whole-value f (begin .pre) bounds number made joined
-    ∙ put-composed f g w (put .put .last .1 .1 .0) (begin .pre .modulus) (omega (arith, lent-places (begin .pre))) (put .put .ensures))
+    ∙ put-composed f g w (put .put .last .1 .1 .0) (begin .pre .modulus) (omega (arith, begin .pre .enough)) (put .put .ensures))
     (c .plus .ensures ∙ whole-weight f (begin .pre) bounds number made joined)
-    (omega (arith, lent-places (begin .pre), whole-places f (begin .pre) bounds number .0, put .put .kept .1 .1 .0, within .size))
+    (omega (arith, begin .pre .enough, whole-places f (begin .pre) bounds number .0, put .put .kept .1 .1 .0, within .size))
     (moved .move-down .ensures)
 
 pub ranged-spec : {M : Type 1} → statement M

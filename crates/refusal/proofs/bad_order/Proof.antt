@@ -1,15 +1,15 @@
 -- `refusal::bad_order` meets its contract. Assumes nothing.
 use borrow.Author.Tests.{eq-eqb, ne-eqb}
-use Rattle.definition.specs.Refusal.{badOrder, limit}
+use Rattle.definition.specs.Refusal.{badOrder}
 use Rattle.refusal.proofs.bad_order.Statement.{statement}
 use Rattle.refusal.proofs.bad_order.Tie as tie
 
 returns : tie.Need-returns
-unfolding badOrder limit
+unfolding badOrder
 returns c = rw (eq-eqb _ 0 (c .if1 .taken))
 
 returns-2 : tie.Need-returns-2
-unfolding badOrder limit
+unfolding badOrder
 returns-2 c = rw (ne-eqb _ 0 (c .if1 .left))
 
 pub bad-order-spec : {M : Type 1} → statement M

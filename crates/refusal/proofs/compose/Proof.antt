@@ -2,7 +2,7 @@
 use borrow.Author.Needs.{needs}
 use native.Mathlib.Omega.{arith}
 use mathlib.Core.Path.{refl}
-use Rattle.definition.specs.Refusal.{composeRefusal, composeWork, limit, notPlaces, test, tooLong}
+use Rattle.definition.specs.Refusal.{composeRefusal, notPlaces, test, tooLong}
 use Rattle.refusal.specs.Tests.{absent, either, followed, told}
 use Rattle.refusal.proofs.compose.Statement.{statement}
 use Rattle.refusal.proofs.compose.Tie as tie
@@ -32,7 +32,7 @@ coefficient-number-requires-2 : tie.Need-coefficient-number-requires-2
 coefficient-number-requires-2 c κs = search needs
 
 returns : tie.Need-returns
-unfolding absent composeRefusal composeWork limit notPlaces test tooLong
+unfolding absent composeRefusal notPlaces test tooLong
 returns c =
     let coefficients = c .before in
     let work = coefficients .before in

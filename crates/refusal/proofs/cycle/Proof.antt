@@ -2,7 +2,7 @@
 use borrow.Author.Needs.{needs}
 use native.Mathlib.Omega.{arith}
 use mathlib.Core.Path.{refl}
-use Rattle.definition.specs.Refusal.{cycleRefusal, cycleWork, limit, mostCycles, notPlaces, test, tooLong}
+use Rattle.definition.specs.Refusal.{cycleRefusal, notPlaces, test, tooLong}
 use Rattle.refusal.specs.Tests.{absent, either, followed, told}
 use Rattle.refusal.proofs.cycle.Statement.{statement}
 use Rattle.refusal.proofs.cycle.Tie as tie
@@ -38,7 +38,7 @@ next-number-requires-5 : tie.Need-next-number-requires-5
 next-number-requires-5 c κs = search needs
 
 returns : tie.Need-returns
-unfolding absent cycleRefusal cycleWork limit mostCycles notPlaces test tooLong
+unfolding absent cycleRefusal notPlaces test tooLong
 returns c =
     let constants = c .before in
     let running = constants .before .before in

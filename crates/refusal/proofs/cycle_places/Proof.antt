@@ -1,7 +1,6 @@
 -- `refusal::cycle_places` meets its contract. Assumes nothing.
 use borrow.Author.Needs.{needs}
 use mathlib.Core.Path.{refl}
-use Rattle.definition.specs.Refusal.{cycleWork}
 use Rattle.refusal.proofs.cycle_places.Statement.{statement}
 use Rattle.refusal.proofs.cycle_places.Tie as tie
 
@@ -15,7 +14,6 @@ add-result : tie.Need-add-result
 add-result c = search needs
 
 returns : tie.Need-returns
-unfolding cycleWork
 returns c = refl
 
 pub cycle-places-spec : {M : Type 1} → statement M

@@ -1,7 +1,7 @@
 -- `refusal::reverse` meets its contract: what its tests ensure, one after the other. Assumes nothing.
 use borrow.Author.Needs.{needs}
 use mathlib.Core.Path.{refl}
-use Rattle.definition.specs.Refusal.{composeWork, limit, notPlaces, reverseRefusal, test, tooLong}
+use Rattle.definition.specs.Refusal.{notPlaces, reverseRefusal, test, tooLong}
 use Rattle.refusal.specs.Tests.{absent, followed, told}
 use Rattle.refusal.proofs.reverse.Statement.{statement}
 use Rattle.refusal.proofs.reverse.Tie as tie
@@ -31,7 +31,7 @@ next-number-requires-4 : tie.Need-next-number-requires-4
 next-number-requires-4 c κs = search needs
 
 returns : tie.Need-returns
-unfolding absent composeWork limit notPlaces reverseRefusal test tooLong
+unfolding absent notPlaces reverseRefusal test tooLong
 returns c =
     let coefficients = c .before .before in
     let work = coefficients .before in

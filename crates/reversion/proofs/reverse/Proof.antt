@@ -4,7 +4,7 @@ use native.Mathlib.Omega.{arith}
 use Prim.Native.Nat.{ℕ}
 use lib.ListN.{length}
 use mathlib.Core.Path.{_≡_, sym, _∙_}
-use Rattle.definition.specs.Refusal.{composeWork, reverseRefusal}
+use Rattle.definition.specs.Refusal.{reverseRefusal}
 use Rattle.refusal.specs.Bounds.{ReverseBounds, reverse-bounds}
 use Rattle.reversion.specs.Answered.{reverse-accepted, reverse-reversible, reverse-refused}
 use Rattle.reversion.proofs.reverse.Statement.{statement}
@@ -51,7 +51,6 @@ work-places-requires c κs =
     (known .field .order, known .inner)
 
 clear-requires : tie.Need-clear-requires
-unfolding composeWork
 clear-requires c κs =
     let called = c .before .before .before .before .before .before in
     let known = within (called .before .before .before) in

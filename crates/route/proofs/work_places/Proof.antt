@@ -1,7 +1,6 @@
 -- `route::work_places` meets its contract. Assumes nothing.
 use borrow.Author.Needs.{needs}
 use mathlib.Core.Path.{refl}
-use Rattle.definition.specs.Refusal.{composeWork}
 use Rattle.route.proofs.work_places.Statement.{statement}
 use Rattle.route.proofs.work_places.Tie as tie
 
@@ -15,7 +14,6 @@ add-result : tie.Need-add-result
 add-result c = search needs
 
 returns : tie.Need-returns
-unfolding composeWork
 returns c = refl
 
 pub work-places-spec : {M : Type 1} → statement M

@@ -4,9 +4,7 @@ use native.Mathlib.Omega.{arith}
 use lib.ListN.{length}
 use mathlib.Core.Path.{sym, _∙_}
 use Rattle.chain.specs.Answered.{bounds-lent, cycle-accepted, cycle-refused}
-use Rattle.definition.specs.Refusal.{mostCycles}
 use Rattle.refusal.specs.Bounds.{CycleBounds, cycle-bounds}
-use Rattle.route.specs.Contract.{lent-places}
 use Rattle.chain.proofs.Chain.cycle.Statement.{statement}
 use Rattle.chain.proofs.Chain.cycle.Tie as tie
 
@@ -46,7 +44,7 @@ finish-requires c κs =
     let run = c .before .before .before .before .before .before in
     let b = bounds (run .before .before .before) in
     let size = run .run .kept .1 .1 .1 .1 .1 .0 in (
-      omega (arith, b .running, lent-places (bounds-lent b), size),
+      omega (arith, b .running, bounds-lent b .enough, size),
       omega (arith, c .before .before .cycle-places .ensures, b .enough, size),
     )
 
@@ -55,7 +53,6 @@ abbrev tested : tie.After-struct-known → tie.Else1
 tested c = c .before .before .before .before .before .before .before .before .before .before .before .before .before .before .before
 
 add-self : tie.Need-add-self
-unfolding mostCycles
 add-self c = omega (arith, bounds (tested c) .not-full)
 
 same-length-2 : tie.Need-same-length-2

@@ -2,7 +2,6 @@
 use borrow.Author.Needs.{needs}
 use native.Mathlib.Omega.{arith}
 use Rattle.reversion.specs.Step.{error-put}
-use Rattle.route.specs.Contract.{lent-places}
 use Rattle.reversion.proofs.step.put_error.Statement.{statement}
 use Rattle.reversion.proofs.step.put_error.Tie as tie
 
@@ -13,7 +12,7 @@ slice-read-difference : tie.Need-slice-read-difference
 slice-read-difference c =
     let called = c .before .before .before in
     let lent = called .before .before .before .before .before .pre in
-    omega (arith, lent-places (lent .1), called .kinoshita-li .ensures .within .size)
+    omega (arith, lent .1 .enough, called .kinoshita-li .ensures .within .size)
 
 difference-requires : tie.Need-difference-requires
 difference-requires c κs = search needs
@@ -22,7 +21,7 @@ slice-write-w : tie.Need-slice-write-w
 slice-write-w c =
     let called = c .before .before .before .before in
     let lent = called .before .before .before .before .before .pre in
-    omega (arith, lent-places (lent .1), called .kinoshita-li .ensures .within .size)
+    omega (arith, lent .1 .enough, called .kinoshita-li .ensures .within .size)
 
 same-length : tie.Need-same-length
 same-length c = search needs

@@ -3,7 +3,6 @@ use borrow.Author.Needs.{needs}
 use native.Mathlib.Omega.{arith}
 use mathlib.Core.Path.{_∙_}
 use Rattle.reversion.specs.Step.{step-operands, stepped}
-use Rattle.route.specs.Contract.{lent-places}
 use Rattle.reversion.proofs.step.step.Statement.{statement}
 use Rattle.reversion.proofs.step.step.Tie as tie
 
@@ -14,7 +13,7 @@ put-derivative-requires : tie.Need-put-derivative-requires
 put-derivative-requires c κs =
     let called = c .before .before .before .before in
     let lent = called .before .before .before .before .before .before .pre .1 in
-    (lent .modulus, lent .order, omega (arith, lent-places lent, called .put-error .ensures .within .size))
+    (lent .modulus, lent .order, omega (arith, lent .enough, called .put-error .ensures .within .size))
 
 mul-multiply : tie.Need-mul-multiply
 mul-multiply c = search needs
@@ -38,7 +37,7 @@ subtract-requires c κs =
       lent .modulus,
       omega (
         arith,
-        lent-places lent,
+        lent .enough,
         multiplied .multiply .kept .1 .1 .0,
         derived .put-derivative .kept .1 .1 .0,
         called .put-error .ensures .within .size,
