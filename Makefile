@@ -27,12 +27,15 @@ CC99 := gcc -std=c99 -O2 $(STRICT) -Iinclude
 ARCHIVE := target/staticlib/libruhitapo.a
 LINK := -L target/staticlib -l static=ruhitapo -l static=trial
 FLINT = $(shell gcc -E -include flint/nmod_poly.h -x c /dev/null >/dev/null 2>&1 && echo -lflint)
-# what the tests in Rust are written in
-RUST := 1.87
+# what the tests need beside rt: commands, each in the package of its name, and the oldest rustc that builds them
+TOOLS := rustc gcc g++ python3
+RUST := 1.63
+MISSING = $(shell for tool in $(TOOLS); do command -v $$tool >/dev/null || echo $$tool; done)
+ADD_PACKAGES := apt-get update && DEBIAN_FRONTEND=noninteractive apt-get install -y --no-install-recommends
 SEED := 1
 CALLS := 24000
 
-.PHONY: test run program bench flint clean tools
+.PHONY: test run program bench flint clean toolchain tools
 .PHONY: formatted trace proofs second definitions wrong-definitions wrong-weights library linked c-interface joiner job-tool
 
 test: tools
@@ -43,12 +46,12 @@ run: program
 	@answer=$$($(PROGRAM) < "$(JOB)") && test -n "$$answer" && printf '%s\n' "$$answer"
 
 # the job program, which is proved before it is built
-program: tools
+program: toolchain
 	@mkdir -p target
 	@echo 'proving and building the job program; what is proved already is not proved again' >&2
 	@rt check job_program > target/program.log || { cat target/program.log; false; }
 
-formatted: tools
+formatted: toolchain
 	rt fmt --check
 
 # every name that the tables of docs/TRACE.md and docs/GUARANTEES.md give stands where they say, and the tests reach what they say;
@@ -61,11 +64,11 @@ trace: tools $(DEFINITIONS)
 	python3 -B tests/trace/contracts.py
 
 # from nothing: every crate is proved, every must-fail edit refused, every program run on its stored input
-proofs: tools
+proofs: toolchain
 	rt ci
 
 # the tool that writes and shows job files, and what it says of a file against the job program
-job-tool: program
+job-tool: tools program
 	python3 -B tests/tools/job_tool.py $(PROGRAM)
 
 # the plain second implementation checks itself
@@ -73,14 +76,14 @@ second: tools $(SECOND)
 	$(SECOND) $(SEED)
 
 # the calls of the proved library, linked, and the job program, held against the second implementation
-linked: library program $(PLAIN)
+linked: tools library program $(PLAIN)
 	mkdir -p $(dir $(LINKED))
 	$(RUSTC) $(LINK) -o $(LINKED) tests/linked/main.rs
 	$(LINKED) $(SEED)
 
 # the C interface: its header as C and as C++, the header's numbers and seeded calls held against a plain implementation in C, wrong
 # headers, which must be refused, and the example of its page
-c-interface: library
+c-interface: tools library
 	mkdir -p $(dir $(C_INTERFACE)) $(EXAMPLES)
 	$(CC99) -fsyntax-only -x c include/ruhitapo.h
 	g++ $(STRICT) -fsyntax-only -x c++ include/ruhitapo.h
@@ -93,7 +96,7 @@ c-interface: library
 
 # the example that joins residues into whole numbers, held against exact integers: its tables, its bounds, its writing, its rounding; then
 # the line of its page that compiles it
-joiner: library
+joiner: tools library
 	mkdir -p $(EXAMPLES) $(dir $(ROUNDING))
 	$(CC99) -o $(EXAMPLES)/joiner examples/joiner.c $(ARCHIVE)
 	python3 -B tests/joiner/whole_numbers.py $(EXAMPLES)/joiner
@@ -105,7 +108,7 @@ joiner: library
 	sed -n '/gcc .*examples\/joiner\.c/p' examples/README.md | sh -ex
 	test "$$(target/joiner 5 2 0,1,1 | tr '\n' ' ')" = '0 1 2 2 1 '
 
-bench: library $(PLAIN)
+bench: tools library $(PLAIN)
 	mkdir -p $(dir $(BENCH))
 	gcc -O2 -c -o $(BENCH)-flint.o tests/bench/flint.c
 	$(RUSTC) $(LINK) -C link-args='$(BENCH)-flint.o $(FLINT)' -o $(BENCH) tests/bench/main.rs
@@ -113,10 +116,10 @@ bench: library $(PLAIN)
 
 # FLINT, another library, stands beside the rest in the benchmark where it is installed
 flint:
-	apt-get update && apt-get install -y libflint-dev
+	$(ADD_PACKAGES) libflint-dev
 
 # the static libraries, each proved before it is written: the C interface, and the calls of a chain for the comparison tests
-library: tools $(ARCHIVE) target/staticlib/libtrial.a
+library: toolchain $(ARCHIVE) target/staticlib/libtrial.a
 
 target/staticlib/lib%.a: $(CRATES)
 	rt staticlib $*
@@ -153,13 +156,14 @@ $(DEFINITIONS): $(PLAIN) $(wildcard tests/definitions/*.rs)
 	mkdir -p $(@D)
 	$(RUSTC) -o $@ tests/definitions/main.rs
 
-# rt comes with the toolchain; the rest is installed from the distribution's packages where it is missing
-tools:
+# all that proving and running need
+toolchain:
 	@command -v rt >/dev/null || { echo 'rt is missing: install the Rattle toolchain first' >&2; exit 1; }
-	@command -v rustc >/dev/null || { apt-get update && apt-get install -y rustc; }
+
+# what the tests need besides, installed from the distribution's packages where it is missing
+tools: toolchain
+	@$(if $(MISSING),$(ADD_PACKAGES) $(MISSING))
 	@printf '%s\n%s\n' $(RUST) "$$(rustc --version | cut -d ' ' -f 2)" | sort -VC || { echo 'rustc is older than $(RUST)' >&2; exit 1; }
-	@command -v gcc >/dev/null && command -v g++ >/dev/null || { apt-get update && apt-get install -y gcc g++; }
-	@command -v python3 >/dev/null || { apt-get update && apt-get install -y python3; }
 
 clean:
 	rm -rf target

@@ -1,6 +1,6 @@
 //! Composition and reversion by FLINT, as flint.c hands them on; None where it is not installed.
 
-use std::ffi::c_int;
+use std::os::raw::c_int;
 
 // A list passes as its pointer and its count; the output has n places.
 extern "C" {

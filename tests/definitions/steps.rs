@@ -1,5 +1,6 @@
 //! Equations for the steps that the routes name, for the search for primes, and for the numbers of rendering.
 
+use crate::plain::counts::quotient_rounded_up;
 use crate::plain::random::Random;
 use crate::plain::{field, primes, products, refusals, render, routes};
 use crate::rows::{list, PRIMES};
@@ -70,7 +71,7 @@ fn two_variables(random: &mut Random) -> Vec<String> {
 /// a(-x, y), the even powers of x, x² for x; P and Q.
 fn rows(random: &mut Random) -> Vec<String> {
     let (p, r) = (random.pick(&PRIMES), random.count(1, 5));
-    let (row, half) = (random.list(p, r), r.div_ceil(2));
+    let (row, half) = (random.list(p, r), quotient_rounded_up(r, 2));
     let even: Vec<u32> = row.iter().step_by(2).copied().collect();
     let negated: Vec<u32> = row.iter().map(|&c| field::subtract(p, 0, c)).collect();
     let reversed: Vec<u32> = row.iter().rev().copied().collect();

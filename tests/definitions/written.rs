@@ -2,7 +2,7 @@
 //! laws, so a theorem is a tuple of laws.
 
 use std::fs;
-use std::io::{Error, Result};
+use std::io::{Error, ErrorKind, Result};
 use std::path::Path;
 
 /// The most laws of one theorem.
@@ -53,7 +53,8 @@ fn modules(definitions: &str) -> Result<Vec<(String, Vec<String>)>> {
     for entry in fs::read_dir(definitions)? {
         let path = entry?.path();
         let stem = path.file_stem().and_then(|stem| stem.to_str()).map(str::to_string);
-        let name = stem.ok_or_else(|| Error::other("a file without a name"))?;
+        let unnamed = || Error::new(ErrorKind::InvalidInput, "a file without a name");
+        let name = stem.ok_or_else(unnamed)?;
         let names = unfoldable(&fs::read_to_string(&path)?);
         if !names.is_empty() {
             found.push((name, names));
@@ -61,6 +62,19 @@ fn modules(definitions: &str) -> Result<Vec<(String, Vec<String>)>> {
     }
     found.sort();
     Ok(found)
+}
+
+/// The laws of each theorem: neighbours that leave the same definitions shut.
+fn groups(laws: &[Law]) -> Vec<&[Law]> {
+    let mut groups = Vec::new();
+    let mut rest = laws;
+    while let Some(first) = rest.first() {
+        let alike = rest.iter().take_while(|law| law.shut == first.shut).take(GROUP);
+        let (group, others) = rest.split_at(alike.count());
+        groups.push(group);
+        rest = others;
+    }
+    groups
 }
 
 /// A theorem of some laws with one list of what they leave shut.
@@ -86,8 +100,7 @@ fn theorems(modules: &[(String, Vec<String>)], besides: &[&str], laws: &[Law]) -
         text += &format!("use Rattle.definition.specs.{module}.{{{}}}\n", inside.join(", "));
         names.extend(inside.iter().map(String::as_str));
     }
-    let alike = laws.chunk_by(|law, next| law.shut == next.shut);
-    for (place, group) in alike.flat_map(|laws| laws.chunks(GROUP)).enumerate() {
+    for (place, group) in groups(laws).into_iter().enumerate() {
         text += &theorem(place, group, &names);
     }
     text

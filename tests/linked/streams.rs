@@ -7,8 +7,8 @@ use crate::checks::support::Tally;
 use crate::plain::random::Random;
 use crate::program::{answered, small_job, start, PROGRAM};
 use std::fs::{self, File};
-use std::io::{self, Error, Write};
-use std::os::fd::OwnedFd;
+use std::io::{Error, Write};
+use std::os::unix::io::OwnedFd;
 use std::os::unix::net::{UnixDatagram, UnixStream};
 use std::process::{Command, Output, Stdio};
 
@@ -101,6 +101,14 @@ fn reset_after(bytes: &[u8]) -> OwnedFd {
     theirs.into()
 }
 
+/// A pipe whose reader has ended.
+fn unread() -> Stdio {
+    let mut reader = Command::new("true").stdin(Stdio::piped()).spawn().expect("a reader");
+    let pipe = reader.stdin.take().expect("a pipe");
+    reader.wait().expect("the end of the reader");
+    pipe.into()
+}
+
 pub fn failing_writes(tally: &mut Tally, _: &mut Random) {
     let whole = Plain::answer(&fs::read(STORED).expect("the stored input"));
     for (output, number) in
@@ -109,9 +117,7 @@ pub fn failing_writes(tally: &mut Tally, _: &mut Random) {
         let left = by_shell(&format!("exec PROGRAM < {STORED} {output}"), Stdio::piped());
         failed(tally, output, left, b"", reason("standard output", number));
     }
-    let (reader, writer) = io::pipe().expect("a pipe");
-    drop(reader);
-    let left = by_shell(&format!("trap '' PIPE; exec PROGRAM < {STORED}"), writer.into());
+    let left = by_shell(&format!("trap '' PIPE; exec PROGRAM < {STORED}"), unread());
     failed(tally, "no reader", left, b"", reason("standard output", NO_READER));
     // a file of at most 512 bytes, the unit of ulimit, has room for four more
     fs::write(CUT_SHORT, [b' '; 508]).expect("a file");

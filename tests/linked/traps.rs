@@ -5,6 +5,7 @@ use crate::checks::reversion::{identity, reversible};
 use crate::checks::support::{add_power, seen, weight, Case, Tally};
 use crate::checks::traps::{joined_parts, one_level_down};
 use crate::compare::composed;
+use crate::plain::counts::quotient_rounded_up;
 use crate::plain::field;
 use crate::plain::random::Random;
 use crate::plain::reversion::reverse;
@@ -93,7 +94,7 @@ pub fn constant_term_counted(tally: &mut Tally, random: &mut Random) {
         let g = [vec![c], vec![0; v - 1], vec![random.non_zero(p)]].concat();
         let count = random.count(1, 6);
         let f = random.list(p, count);
-        let exponent = n.div_ceil(v);
+        let exponent = quotient_rounded_up(n, v);
         let (route, other_route) = (random.route(), random.route());
         let mut of =
             |number, f: Vec<u32>| answer(tally, random, number, &Case { p, n, f, g: g.clone() });

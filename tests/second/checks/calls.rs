@@ -42,7 +42,7 @@ pub fn order_of_tests(tally: &mut Tally, _: &mut Random) {
     let others = [refusals::TABLE, refusals::RENDER, &refusals::JOB[2..]];
     for tests in Call::ALL.map(Call::tests).into_iter().chain(others) {
         let low: Vec<u32> = tests.iter().copied().filter(|&number| number <= 11).collect();
-        tally.equal(tests, low.is_sorted(), true);
+        tally.equal(tests, low.windows(2).all(|pair| pair[0] < pair[1]), true);
     }
     tally.equal("a job", &refusals::JOB[..2], &[12, 13]);
 }

@@ -4,6 +4,7 @@
 use super::library::Library;
 use super::support::{add_power, compose, lists_up_to, modulus, seen, Case, Tally};
 use crate::plain::chain::Chain;
+use crate::plain::counts::quotient_rounded_up;
 use crate::plain::random::Random;
 use crate::plain::substitution::substitution;
 use crate::plain::taylor::{coefficients, constant_term, deciding_coefficients, least_power};
@@ -17,7 +18,7 @@ pub fn taylor(tally: &mut Tally, random: &mut Random) {
     for _ in 0..PAIRS / 4 {
         let Case { p, n, f, g } = Case::draw(random, 12);
         let v = least_power(&g, n);
-        let zero = |i: usize| g.get(i).is_none_or(|&coefficient| coefficient == 0);
+        let zero = |i: usize| g.get(i).copied().unwrap_or(0) == 0;
         let least = 1 <= v && v <= n && (1..v).all(zero) && (v == n || !zero(v));
         tally.equal((&g, n, v), least, true);
         let c = random.coefficient(p);
@@ -72,7 +73,7 @@ fn pair(random: &mut Random) -> [Case; 2] {
     let f = random.list(p, longest);
     let mut other = f.clone();
     for _ in 0..random.count(0, 2) {
-        let bound = n.div_ceil(least_power(&g, n));
+        let bound = quotient_rounded_up(n, least_power(&g, n));
         let exponent = random.count(bound.saturating_sub(1), bound + 1);
         other = add_power(p, &other, constant_term(&g), exponent, random.non_zero(p));
     }

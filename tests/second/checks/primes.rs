@@ -2,6 +2,7 @@
 
 use super::library::Library;
 use super::support::Tally;
+use crate::plain::counts::quotient_rounded_up;
 use crate::plain::primes::{is_prime, LARGEST_MODULUS};
 use crate::plain::random::Random;
 
@@ -10,7 +11,7 @@ use crate::plain::random::Random;
 fn sieve(first: u64, last: u64) -> Vec<u64> {
     let mut struck = vec![false; (last - first + 1) as usize];
     for divisor in (2..).take_while(|d| d * d <= last) {
-        let start = (2 * divisor).max(first.div_ceil(divisor) * divisor);
+        let start = (2 * divisor).max(quotient_rounded_up(first, divisor) * divisor);
         for multiple in (start..=last).step_by(divisor as usize) {
             struck[(multiple - first) as usize] = true;
         }

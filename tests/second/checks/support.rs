@@ -9,7 +9,6 @@ use crate::plain::{field, primes, products, refusals, weights};
 use std::fmt::Debug;
 use std::panic::{catch_unwind, AssertUnwindSafe};
 use std::process::ExitCode;
-use std::sync::LazyLock;
 
 /// The seed where none is given.
 const DEFAULT_SEED: u64 = 1;
@@ -49,9 +48,12 @@ pub type Check = fn(&mut Tally, &mut Random);
 /// A group that panics counts as one failure.
 pub fn run(groups: &[(&str, Check)]) -> ExitCode {
     let argument = std::env::args().nth(1);
-    let Ok(seed) = argument.map_or(Ok(DEFAULT_SEED), |text| text.parse()) else {
-        eprintln!("the argument is a seed, a decimal number below 2^64");
-        return ExitCode::FAILURE;
+    let seed = match argument.map_or(Ok(DEFAULT_SEED), |text| text.parse()) {
+        Ok(seed) => seed,
+        Err(_) => {
+            eprintln!("the argument is a seed, a decimal number below 2^64");
+            return ExitCode::FAILURE;
+        }
     };
     let mut random = Random::new(seed);
     let mut total = Tally::default();
@@ -95,9 +97,9 @@ impl Case {
 
 /// A prime, mostly small, else from the table.
 pub fn modulus(random: &mut Random) -> u64 {
-    static TABLE: LazyLock<Vec<u32>> = LazyLock::new(primes::table);
+    thread_local!(static TABLE: Vec<u32> = primes::table());
     match random.below(4) {
-        0 => u64::from(random.pick(&TABLE)),
+        0 => TABLE.with(|table| u64::from(random.pick(table))),
         1 => 2,
         _ => random.pick(&[3, 5, 7, 11, 13, 31, 65537]),
     }

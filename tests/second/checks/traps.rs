@@ -4,6 +4,7 @@
 use super::library::{Library, Plain};
 use super::reversion::reversible;
 use super::support::{add_power, compose, reverse, seen, Case, Tally};
+use crate::plain::counts::quotient_rounded_up;
 use crate::plain::products::{places, product, spread, sum};
 use crate::plain::random::Random;
 use crate::plain::routes::mirror;
@@ -72,7 +73,7 @@ pub fn order_rounded_down(tally: &mut Tally, random: &mut Random) {
         case.g = random.list(case.p, case.g.len());
         let (_, out) = compose::<Plain>(random, 3, &case);
         let p = case.p as usize;
-        tally.equal(&case, &out, &joined_parts(&case, case.n.div_ceil(p)));
+        tally.equal(&case, &out, &joined_parts(&case, quotient_rounded_up(case.n, p)));
         different += usize::from(out != joined_parts(&case, case.n / p));
     }
     seen(tally, "order rounded down, answer different", different);
@@ -131,7 +132,7 @@ pub fn constant_term_counted(tally: &mut Tally, random: &mut Random) {
         let g = [vec![c], vec![0; v - 1], vec![random.non_zero(p)]].concat();
         let count = random.count(1, 6);
         let f = random.list(p, count);
-        let exponent = n.div_ceil(v);
+        let exponent = quotient_rounded_up(n, v);
         let other = add_power(p, &f, c, exponent, 1);
         let rewritten = |list: &[u32]| taylor::coefficients(p, list, c, other.len());
         tally.equal((p, n, &f, &other), rewritten(&f) == rewritten(&other), false);

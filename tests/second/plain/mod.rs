@@ -4,6 +4,7 @@
 //! Conventions of every module: p is the modulus and n the order; a list holds the coefficient of
 //! power 0 first, and missing coefficients are zero; f is the outer list, m its count, g the inner.
 //!
+//! - `counts`        a quotient of counts, rounded up
 //! - `field`         arithmetic modulo p
 //! - `products`      products that give back the places they were cut to; the quotient
 //! - `substitution`  f(g) modulo x^n by the definition
@@ -21,6 +22,7 @@
 
 pub mod calls;
 pub mod chain;
+pub mod counts;
 pub mod field;
 pub mod job;
 pub mod primes;

@@ -6,7 +6,7 @@ pub const TABLE_LENGTH: usize = 16;
 /// No number from 2 to the square root divides it; apart from 2, the odd ones are tried.
 pub fn is_prime(number: u64) -> bool {
     let mut odd = (3..).step_by(2).take_while(|d| d * d <= number);
-    number == 2 || number > 2 && !number.is_multiple_of(2) && odd.all(|d| !number.is_multiple_of(d))
+    number == 2 || number > 2 && number % 2 == 1 && odd.all(|d| number % d != 0)
 }
 
 /// The sixteen largest primes below 2147483648, largest first.

@@ -164,7 +164,9 @@ pub fn render(number: u32, n: u64, weight: u64, list: &[u32], text_places: usize
 pub fn job(file: &[u8]) -> u32 {
     let read = job::Job::read(file);
     first(JOB, |number| match (number, &read) {
-        (12, _) => file.len() > job::LONGEST_FILE || Header::read(file).is_some_and(job_too_large),
+        (12, _) => {
+            file.len() > job::LONGEST_FILE || Header::read(file).map_or(false, job_too_large)
+        }
         (13, _) => read.is_none(),
         (1, Some(job)) => route_unknown(job.route),
         (2, Some(job)) => modulus_unfit(job.modulus),

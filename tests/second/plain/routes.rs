@@ -1,6 +1,7 @@
 //! The four routes for f(g) modulo x^n. Each is carried out step by step as it is stated, and its
 //! weight is the sum of the places that its own products gave back.
 
+use super::counts::quotient_rounded_up;
 use super::field;
 use super::products::{places, product, product_in_two_variables, quotient, spread, sum};
 
@@ -68,7 +69,8 @@ pub fn ranged(p: u64, f: &[u32], g: &[u32], n: usize, length: usize) -> (Vec<u32
 fn power_of_series(p: u64, g: &[u32], exponent: usize, n: usize) -> (Vec<u32>, u64) {
     let mut value = places(g, n);
     let mut weight = 0;
-    for digit in (0..exponent.ilog2()).rev() {
+    let digits = usize::BITS - exponent.leading_zeros();
+    for digit in (0..digits - 1).rev() {
         let (square, cut) = product(p, &value, &value, n);
         value = square;
         weight += cut;
@@ -105,7 +107,7 @@ pub fn bernstein(p: u64, f: &[u32], g: &[u32], n: usize) -> (Vec<u32>, u64) {
         return (places(f, n), 0);
     }
     let parts = p.min(f.len() as u64) as usize;
-    let order = (n as u64).div_ceil(p) as usize;
+    let order = quotient_rounded_up(n, p as usize);
     let powers: Vec<u32> = g.iter().take(order).map(|&c| field::power(p, c, p)).collect();
     let mut weight = 0;
     let mut spread_parts = Vec::new();
@@ -121,9 +123,10 @@ pub fn bernstein(p: u64, f: &[u32], g: &[u32], n: usize) -> (Vec<u32>, u64) {
 
 /// Route 4: the power m - 1 of y in P/Q, where P is f reversed and Q is 1 - y·g.
 pub fn kinoshita_li(p: u64, f: &[u32], g: &[u32], n: usize) -> (Vec<u32>, u64) {
-    let Some(top) = f.len().checked_sub(1) else {
+    if f.is_empty() {
         return (vec![0; n], 0);
-    };
+    }
+    let top = f.len() - 1;
     let numerator: Vec<u32> = f.iter().rev().copied().collect();
     let negated = places(g, n).iter().map(|&c| field::subtract(p, 0, c)).collect();
     let mut denominator = vec![places(&[1], n), negated];
@@ -153,7 +156,7 @@ fn level(
     let (norm, first) = product_in_two_variables(p, denominator, &mirrored, r, 0..next_q + 1);
     let even: Vec<Vec<u32>> =
         norm.iter().map(|row| row.iter().step_by(2).copied().collect()).collect();
-    let (window, below) = level(p, numerator, &even, e, r.div_ceil(2));
+    let (window, below) = level(p, numerator, &even, e, quotient_rounded_up(r, 2));
     let spread_window: Vec<Vec<u32>> = window.iter().map(|row| spread(row, 2, r)).collect();
     let (kept, second) = product_in_two_variables(p, &spread_window, &mirrored, r, d - e..m - e);
     (kept, first + below + second)

@@ -1,5 +1,6 @@
 //! f rewritten in powers of (z - c), and the rule that says when two answers are equal.
 
+use super::counts::quotient_rounded_up;
 use super::field::{add, multiply};
 
 /// c: the constant term of g.
@@ -37,5 +38,5 @@ fn next_row(p: u64, row: &[u32]) -> Vec<u32> {
 
 /// The coefficients that decide the answer: the first n/v, rounded up, in powers of (z - c).
 pub fn deciding_coefficients(p: u64, f: &[u32], g: &[u32], n: usize) -> Vec<u32> {
-    coefficients(p, f, constant_term(g), n.div_ceil(least_power(g, n)))
+    coefficients(p, f, constant_term(g), quotient_rounded_up(n, least_power(g, n)))
 }

@@ -1,5 +1,7 @@
 //! The weight of each route by its rule, from the counts alone.
 
+use super::counts::quotient_rounded_up;
+
 /// The weight of the route with this number, from 1 to 4, with this block length for route 2.
 pub fn by_number(route: u64, p: u64, m: u64, n: u64, length: u64) -> u64 {
     match route {
@@ -19,11 +21,11 @@ pub fn horner(m: u64, n: u64) -> u64 {
 /// n for each product: m - k in the k blocks; with more than one block those of G, one for each
 /// join, and one squaring for each level of joins but the last.
 pub fn ranged(m: u64, n: u64, length: u64) -> u64 {
-    let blocks = m.div_ceil(length);
+    let blocks = quotient_rounded_up(m, length);
     if blocks <= 1 {
         return (m - blocks) * n;
     }
-    let digits_after_first = u64::from(length.ilog2());
+    let digits_after_first = u64::from(u64::BITS - length.leading_zeros()) - 1;
     let ones_after_first = u64::from(length.count_ones()) - 1;
     let joins = blocks - 1;
     let squarings = halvings(blocks) - 1;
@@ -36,7 +38,8 @@ pub fn bernstein(p: u64, m: u64, n: u64) -> u64 {
         return 0;
     }
     let parts = p.min(m);
-    let below = (0..parts).map(|j| bernstein(p, (m - j).div_ceil(p), n.div_ceil(p)));
+    let order = quotient_rounded_up(n, p);
+    let below = (0..parts).map(|j| bernstein(p, quotient_rounded_up(m - j, p), order));
     (parts - 1) * n + below.sum::<u64>()
 }
 
@@ -52,7 +55,7 @@ pub fn kinoshita_li(m: u64, n: u64) -> u64 {
         weight += r * (next_q + 1 + (m - d));
         d = d.saturating_sub(q);
         q = next_q;
-        r = r.div_ceil(2);
+        r = quotient_rounded_up(r, 2);
     }
     weight
 }
