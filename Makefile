@@ -55,13 +55,14 @@ formatted: toolchain
 	rt fmt --check
 
 # every name that the tables of docs/TRACE.md and docs/GUARANTEES.md give stands where they say, and the tests reach what they say;
-# no public function's contract omits its result
+# no public function's contract omits its result; crates.txt lists only what is used
 trace: tools $(DEFINITIONS)
 	rm -rf target/trace
 	mkdir -p target/trace
 	$(DEFINITIONS) crates/definition/specs target/trace $(SEED)
 	python3 -B tests/trace/names.py target/trace
 	python3 -B tests/trace/contracts.py
+	python3 -B tests/trace/dependencies.py
 
 # from nothing: every crate is proved, every must-fail edit refused, every program run on its stored input
 proofs: toolchain

@@ -22,10 +22,12 @@ def used(crate):
 
 
 def main():
-    unused = [(crate, name) for crate, names in listed().items() for name in names if name not in used(crate)]
-    for crate, name in unused:
-        print(f"crates.txt: {crate} does not use {name}")
-    return int(bool(unused))
+    rows = listed()
+    found = [f"{crate} does not use {name}" for crate, names in rows.items() for name in sorted(set(names) - used(crate))]
+    for fault in found:
+        print(f"crates.txt: {fault}")
+    print(f"dependencies: {len(rows)} crates read, {len(found)} faults")
+    return 1 if found or not rows else 0
 
 
 if __name__ == "__main__":
