@@ -25,7 +25,7 @@ JOB := crates/job_program/stdin
 STRICT := -Wall -Wextra -Werror -pedantic
 CC99 := gcc -std=c99 -O2 $(STRICT) -Iinclude
 ARCHIVE := target/staticlib/libruhitapo.a
-LINK := -L target/staticlib -l static=ruhitapo -l static=trial
+LINK := -L target/staticlib -l static=ruhitapo
 FLINT = $(shell gcc -E -include flint/nmod_poly.h -x c /dev/null >/dev/null 2>&1 && echo -lflint)
 # what the tests in Rust are written in
 RUST := 1.87
@@ -78,12 +78,12 @@ linked: library program $(PLAIN)
 	$(RUSTC) $(LINK) -o $(LINKED) tests/linked/main.rs
 	$(LINKED) $(SEED)
 
-# the C interface: its header as C and as C++, the header's numbers and seeded calls held against a plain implementation in C, wrong
+# the C interface: its header alone as C and as C++, the header's numbers and seeded calls held against a plain implementation in C, wrong
 # headers, which must be refused, and the example of its page
 c-interface: library
 	mkdir -p $(dir $(C_INTERFACE)) $(EXAMPLES)
-	$(CC99) -fsyntax-only -x c include/ruhitapo.h
-	g++ $(STRICT) -fsyntax-only -x c++ include/ruhitapo.h
+	$(CC99) -c -o /dev/null -x c include/ruhitapo.h
+	g++ $(STRICT) -c -o /dev/null -x c++ include/ruhitapo.h
 	$(CC99) -o $(C_INTERFACE) tests/c/*.c $(ARCHIVE)
 	$(C_INTERFACE) $(SEED) $(CALLS)
 	python3 -B tests/c/wrong_headers.py $(ARCHIVE)
@@ -115,11 +115,11 @@ bench: library $(PLAIN)
 flint:
 	apt-get update && apt-get install -y libflint-dev
 
-# the static libraries, each proved before it is written: the C interface, and the calls of a chain for the comparison tests
-library: tools $(ARCHIVE) target/staticlib/libtrial.a
+# the static library, which is proved before it is written
+library: tools $(ARCHIVE)
 
-target/staticlib/lib%.a: $(CRATES)
-	rt staticlib $*
+$(ARCHIVE): $(CRATES)
+	rt staticlib ruhitapo
 
 # the definitions, held against the second implementation: the prover computes seeded equations in a repository of their own. The crates
 # that prove the table written out go there as they are proved here

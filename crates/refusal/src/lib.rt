@@ -27,7 +27,7 @@ ghost use Rattle.refusal.specs.Tests.{fieldTests, listTests, numberAfter
 // The largest order, and the longest list that a call takes.
 const LIMIT: usize = 4096;
 
-// What compose, reverse and a cycle answer.
+// What compose and reverse answer.
 #[repr(C)]
 pub struct Answer {
     pub number: u32,
@@ -179,7 +179,7 @@ pub fn open(p: u32, n: usize, places: usize) -> u32
 
 // The number that a cycle with the list c returns, where s is the running series and `done` cycles are done.
 pub fn cycle(route: u32, p: u32, n: usize, done: u32, c: &[u32], s: &[u32], work: usize) -> u32
-    ensures { λ r. ⌜ r ≡ cycleRefusal route p n done (now (c .entry)) (now (s .entry)) work ⌝ }
+    ensures { λ r. ⌜ r ≡ cycleRefusal route (record { modulus = p; order = n; done = done }) (now (c .entry)) (now (s .entry)) work ⌝ }
 {
     let number = next_number(routed_number(route, p, n), 5, c.len() > LIMIT);
     let number = next_number(number, 6, s.len() != n);
