@@ -1,6 +1,7 @@
 # make test   the gate: formatting, every proof, every must-fail edit, every program, the comparison tests. Last line: 'N passed, 0 failed'
 # make run    the job program on the whole case of document 01; 'make run JOB=file' on another job file
 # make library  the C library, target/staticlib/libruhitapo.a
+# make install PREFIX=dir  the header, the library and a pkg-config file below dir, or below /usr/local; DESTDIR is put before it
 # make bench  each route, an opening and reversion beside the straightforward code of the second implementation and beside FLINT, as ratios
 #             and as the picture target/bench.svg; no part of the gate
 # make flint  installs FLINT for the benchmark, which does without it where it is missing
@@ -25,6 +26,9 @@ JOB := crates/job_program/stdin
 STRICT := -Wall -Wextra -Werror -pedantic
 CC99 := gcc -std=c99 -O2 $(STRICT) -Iinclude
 ARCHIVE := target/staticlib/libruhitapo.a
+# of the C interface
+VERSION := 1.0.0
+PREFIX := /usr/local
 LINK := -L target/staticlib -l static=ruhitapo
 FLINT = $(shell gcc -E -include flint/nmod_poly.h -x c /dev/null >/dev/null 2>&1 && echo -lflint)
 # what the tests in Rust are written in
@@ -32,8 +36,8 @@ RUST := 1.87
 SEED := 1
 CALLS := 24000
 
-.PHONY: test run program bench flint clean tools
-.PHONY: formatted trace proofs second definitions wrong-definitions wrong-weights library linked c-interface joiner job-tool
+.PHONY: test run program install bench flint clean tools
+.PHONY: formatted trace proofs second definitions wrong-definitions wrong-weights library linked c-interface installed joiner job-tool
 
 test: tools
 	python3 tests/gate.py
@@ -79,7 +83,7 @@ linked: library program $(PLAIN)
 	$(LINKED) $(SEED)
 
 # the C interface: its header alone as C and as C++, the header's numbers and seeded calls held against a plain implementation in C, wrong
-# headers, which must be refused, and the example of its page
+# headers, which must be refused, and the examples of its page
 c-interface: library
 	mkdir -p $(dir $(C_INTERFACE)) $(EXAMPLES)
 	$(CC99) -c -o /dev/null -x c include/ruhitapo.h
@@ -88,8 +92,13 @@ c-interface: library
 	$(C_INTERFACE) $(SEED) $(CALLS)
 	python3 -B tests/c/wrong_headers.py $(ARCHIVE)
 	$(CC99) -o $(EXAMPLES)/compose examples/compose.c $(ARCHIVE)
-	python3 -B tests/c/shown.py docs/C-INTERFACE.md examples/compose.c
-	test "$$($(EXAMPLES)/compose | tr '\n' ' ')" = 'ok 4 8 1 2 5 6 2147483647 '
+	$(CC99) -o $(EXAMPLES)/chain examples/chain.c $(ARCHIVE)
+	python3 -B tests/c/shown.py docs/C-INTERFACE.md examples/compose.c examples/chain.c
+	python3 -B tests/c/printed.py $(EXAMPLES) compose chain
+
+# what is installed, and every example built from that alone
+installed: library
+	python3 -B tests/c/installed.py
 
 # the example that joins residues into whole numbers, held against exact integers: its tables, its bounds, its writing, its rounding; then
 # the line of its page that compiles it
@@ -103,7 +112,7 @@ joiner: library
 	python3 -B tests/joiner/rounding.py $(ROUNDING) $(SEED)
 	rm -f target/joiner
 	sed -n '/gcc .*examples\/joiner\.c/p' examples/README.md | sh -ex
-	test "$$(target/joiner 5 2 0,1,1 | tr '\n' ' ')" = '0 1 2 2 1 '
+	python3 -B tests/c/printed.py target joiner
 
 bench: library $(PLAIN)
 	mkdir -p $(dir $(BENCH))
@@ -120,6 +129,15 @@ library: tools $(ARCHIVE)
 
 $(ARCHIVE): $(CRATES)
 	rt staticlib ruhitapo
+
+# the header, the library and a pkg-config file; the prefix is made absolute, since the latter names it
+install: library
+	prefix=$$(realpath -ms "$(PREFIX)") && folder="$(DESTDIR)$$prefix" && \
+	install -d "$$folder/include" "$$folder/lib/pkgconfig" && \
+	install -m 644 include/ruhitapo.h "$$folder/include" && \
+	install -m 644 $(ARCHIVE) "$$folder/lib" && \
+	sed -e "s|@PREFIX@|$$prefix|" -e 's|@VERSION@|$(VERSION)|' include/ruhitapo.pc.in > target/ruhitapo.pc && \
+	install -m 644 target/ruhitapo.pc "$$folder/lib/pkgconfig"
 
 # the definitions, held against the second implementation: the prover computes seeded equations in a repository of their own. The crates
 # that prove the table written out go there as they are proved here
@@ -160,6 +178,7 @@ tools:
 	@printf '%s\n%s\n' $(RUST) "$$(rustc --version | cut -d ' ' -f 2)" | sort -VC || { echo 'rustc is older than $(RUST)' >&2; exit 1; }
 	@command -v gcc >/dev/null && command -v g++ >/dev/null || { apt-get update && apt-get install -y gcc g++; }
 	@command -v python3 >/dev/null || { apt-get update && apt-get install -y python3; }
+	@command -v pkg-config >/dev/null || { apt-get update && apt-get install -y pkg-config; }
 
 clean:
 	rm -rf target

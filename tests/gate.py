@@ -19,6 +19,7 @@ STEPS = [
     "wrong-weights",
     "linked",
     "c-interface",
+    "installed",
     "joiner",
     "job-tool",
 ]
