@@ -5,7 +5,7 @@ use lib.ListN.{length}
 use mathlib.Core.Path.{sym, _∙_}
 use Rattle.chain.specs.Answered.{bounds-lent, cycle-accepted, cycle-refused}
 use Rattle.chain.specs.Record.{recorded}
-use Rattle.definition.specs.Refusal.{mostCycles}
+use Rattle.definition.specs.Refusal.{cycleWork, mostCycles}
 use Rattle.refusal.specs.Bounds.{CycleBounds, cycle-bounds}
 use Rattle.route.specs.Contract.{lent-places}
 use Rattle.chain.proofs.Chain.cycle.Statement.{statement}
@@ -40,9 +40,10 @@ value-requires c κs = search needs
 cycle-places-requires : tie.Need-cycle-places-requires
 cycle-places-requires c κs =
     let b = bounds (c .before .before .before .before .before .before) in
-    (b .field .order, b .outer)
+    (b .field .order, omega (arith, b .outer))
 
 finish-requires : tie.Need-finish-requires
+unfolding cycleWork
 finish-requires c κs =
     let run = c .before .before .before .before .before .before in
     let b = bounds (run .before .before .before) in
