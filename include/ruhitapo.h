@@ -172,7 +172,7 @@ ruhitapo_answer ruhitapo_reverse(uint32_t p, size_t n,
 ruhitapo_open_answer ruhitapo_open(uint32_t p, size_t n, uint32_t *running, size_t running_count);
 
 /*
- * A cycle of the chain, given by its numbers; ruhitapo_cycle, below, takes the chain itself. See there.
+ * What ruhitapo_cycle, below, calls; see there. The first arguments are the fields of the chain, and a later version may have more of them.
  */
 ruhitapo_cycle_answer ruhitapo_cycle_numbers(uint32_t modulus, size_t order, uint32_t done, uint32_t route,
                                              const uint32_t *list, size_t list_count,
