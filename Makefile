@@ -1,6 +1,7 @@
 # make test   the gate: formatting, every proof, every must-fail edit, every program, the comparison tests. Last line: 'N passed, 0 failed'
 # make run    the job program on the whole case of document 01; 'make run JOB=file' on another job file
 # make library  the C library, target/staticlib/libruhitapo.a
+# make install PREFIX=dir  the header, the library and a pkg-config file below dir, or below /usr/local; DESTDIR is put before it
 # make bench  each route, an opening and reversion beside the straightforward code of the second implementation and beside FLINT, as ratios
 #             and as the picture target/bench.svg; no part of the gate
 # make flint  installs FLINT for the benchmark, which does without it where it is missing
@@ -25,18 +26,21 @@ JOB := crates/job_program/stdin
 STRICT := -Wall -Wextra -Werror -pedantic
 CC99 := gcc -std=c99 -O2 $(STRICT) -Iinclude
 ARCHIVE := target/staticlib/libruhitapo.a
-LINK := -L target/staticlib -l static=ruhitapo -l static=trial
+# of the C interface
+VERSION := 1.0.0
+PREFIX := /usr/local
+LINK := -L target/staticlib -l static=ruhitapo
 FLINT = $(shell gcc -E -include flint/nmod_poly.h -x c /dev/null >/dev/null 2>&1 && echo -lflint)
 # what the tests need beside rt: commands, each in the package of its name, and the oldest rustc that builds them
-TOOLS := rustc gcc g++ python3
+TOOLS := rustc gcc g++ python3 pkg-config
 RUST := 1.63
 MISSING = $(shell for tool in $(TOOLS); do command -v $$tool >/dev/null || echo $$tool; done)
 ADD_PACKAGES := apt-get update && DEBIAN_FRONTEND=noninteractive apt-get install -y --no-install-recommends
 SEED := 1
 CALLS := 24000
 
-.PHONY: test run program bench flint clean toolchain tools
-.PHONY: formatted trace proofs second definitions wrong-definitions wrong-weights library linked c-interface joiner job-tool
+.PHONY: test run program install bench flint clean toolchain tools
+.PHONY: formatted trace proofs second definitions wrong-definitions wrong-weights library linked c-interface installed joiner job-tool
 
 test: tools
 	python3 tests/gate.py
@@ -82,18 +86,23 @@ linked: tools library program $(PLAIN)
 	$(RUSTC) $(LINK) -o $(LINKED) tests/linked/main.rs
 	$(LINKED) $(SEED)
 
-# the C interface: its header as C and as C++, the header's numbers and seeded calls held against a plain implementation in C, wrong
-# headers, which must be refused, and the example of its page
+# the C interface: its header alone as C and as C++, the header's numbers and seeded calls held against a plain implementation in C, wrong
+# headers, which must be refused, and the examples of its page
 c-interface: tools library
 	mkdir -p $(dir $(C_INTERFACE)) $(EXAMPLES)
-	$(CC99) -fsyntax-only -x c include/ruhitapo.h
-	g++ $(STRICT) -fsyntax-only -x c++ include/ruhitapo.h
+	$(CC99) -c -o /dev/null -x c include/ruhitapo.h
+	g++ $(STRICT) -c -o /dev/null -x c++ include/ruhitapo.h
 	$(CC99) -o $(C_INTERFACE) tests/c/*.c $(ARCHIVE)
 	$(C_INTERFACE) $(SEED) $(CALLS)
 	python3 -B tests/c/wrong_headers.py $(ARCHIVE)
 	$(CC99) -o $(EXAMPLES)/compose examples/compose.c $(ARCHIVE)
-	python3 -B tests/c/shown.py docs/C-INTERFACE.md examples/compose.c
-	test "$$($(EXAMPLES)/compose | tr '\n' ' ')" = 'ok 4 8 1 2 5 6 2147483647 '
+	$(CC99) -o $(EXAMPLES)/chain examples/chain.c $(ARCHIVE)
+	python3 -B tests/c/shown.py docs/C-INTERFACE.md examples/compose.c examples/chain.c
+	python3 -B tests/c/printed.py $(EXAMPLES) compose chain
+
+# what is installed, and every example built from that alone
+installed: tools library
+	python3 -B tests/c/installed.py
 
 # the example that joins residues into whole numbers, held against exact integers: its tables, its bounds, its writing, its rounding; then
 # the line of its page that compiles it
@@ -107,7 +116,7 @@ joiner: tools library
 	python3 -B tests/joiner/rounding.py $(ROUNDING) $(SEED)
 	rm -f target/joiner
 	sed -n '/gcc .*examples\/joiner\.c/p' examples/README.md | sh -ex
-	test "$$(target/joiner 5 2 0,1,1 | tr '\n' ' ')" = '0 1 2 2 1 '
+	python3 -B tests/c/printed.py target joiner
 
 bench: tools library $(PLAIN)
 	mkdir -p $(dir $(BENCH))
@@ -119,11 +128,20 @@ bench: tools library $(PLAIN)
 flint:
 	$(ADD_PACKAGES) libflint-dev
 
-# the static libraries, each proved before it is written: the C interface, and the calls of a chain for the comparison tests
-library: toolchain $(ARCHIVE) target/staticlib/libtrial.a
+# the static library, which is proved before it is written
+library: toolchain $(ARCHIVE)
 
-target/staticlib/lib%.a: $(CRATES)
-	rt staticlib $*
+$(ARCHIVE): $(CRATES)
+	rt staticlib ruhitapo
+
+# the header, the library and a pkg-config file; the prefix is made absolute, since the latter names it
+install: library
+	prefix=$$(realpath -ms "$(PREFIX)") && folder="$(DESTDIR)$$prefix" && \
+	install -d "$$folder/include" "$$folder/lib/pkgconfig" && \
+	install -m 644 include/ruhitapo.h "$$folder/include" && \
+	install -m 644 $(ARCHIVE) "$$folder/lib" && \
+	sed -e "s|@PREFIX@|$$prefix|" -e 's|@VERSION@|$(VERSION)|' include/ruhitapo.pc.in > target/ruhitapo.pc && \
+	install -m 644 target/ruhitapo.pc "$$folder/lib/pkgconfig"
 
 # the definitions, held against the second implementation: the prover computes seeded equations in a repository of their own. The crates
 # that prove the table written out go there as they are proved here

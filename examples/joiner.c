@@ -1,6 +1,7 @@
 /*
  * Builds a copy table of whole numbers: the coefficients of C(C(...)), the cycle series composed over several cycles, cut below a given
- * power. Each cycle is one call of ruhitapo_compose for each of the sixteen primes; the residues are joined by Garner's method.
+ * power. For each of the sixteen primes the cycles are those of a chain (ruhitapo_open, ruhitapo_cycle), which takes no series with a
+ * constant term; where one has it, each cycle is a call of ruhitapo_compose. The residues are joined by Garner's method.
  *
  *     joiner ORDER CYCLES LIST...
  *
@@ -20,7 +21,6 @@
 #include <stdio.h>
 
 #define MOST_LISTS 64
-#define MOST_CYCLES 64
 #define MOST_HALVINGS ((int64_t)1 << 24) /* the least r is 1 halved as often */
 
 struct list {
@@ -30,6 +30,7 @@ struct list {
 
 static struct list lists[MOST_LISTS];
 static size_t list_count;
+static int constant_terms; /* whether some list has one */
 static uint32_t prime[RUHITAPO_PRIMES];
 
 static const char use[] = "usage: joiner ORDER CYCLES LIST...\n"
@@ -128,27 +129,57 @@ static void see_that_it_fits(size_t n, size_t cycles)
         refuse(n - 1, halvings, &bound, &product);
 }
 
-/* The residues modulo p, in `out`: the running series begins as x, and each cycle composes its list with it. */
+static void see_accepted(const char *call, uint32_t number)
+{
+    if (number == RUHITAPO_ACCEPTED)
+        return;
+    fprintf(stderr, "joiner: %s returned %" PRIu32 "\n", call, number);
+    exit(1);
+}
+
+/* The list of a cycle modulo p, until the next one is asked for. */
+static const struct list *reduced_list(size_t cycle, uint32_t p)
+{
+    static struct list reduced;
+    const struct list *list = lists + cycle % list_count;
+    size_t k;
+    reduced.count = list->count;
+    for (k = 0; k < list->count; k++)
+        reduced.coefficient[k] = list->coefficient[k] % p;
+    return &reduced;
+}
+
+/* The residues modulo p, in `running`: the cycles of a chain. */
+static void cycle_chain(uint32_t p, size_t n, size_t cycles, uint32_t *running)
+{
+    size_t places = RUHITAPO_CYCLE_WORK_PLACES(n, RUHITAPO_LONGEST_LIST), i;
+    uint32_t *work = memory(places * sizeof *work);
+    ruhitapo_open_answer opened = ruhitapo_open(p, n, running, n);
+    ruhitapo_chain chain = opened.chain;
+    see_accepted("ruhitapo_open", opened.number);
+    for (i = 0; i < cycles; i++) {
+        const struct list *list = reduced_list(i, p);
+        ruhitapo_cycle_answer answer = ruhitapo_cycle(chain, RUHITAPO_KINOSHITA_LI, list->coefficient, list->count,
+                                                      running, n, work, places);
+        see_accepted("ruhitapo_cycle", answer.number);
+        chain = answer.chain;
+    }
+    free(work);
+}
+
+/* The same with constant terms, in `out`: the running series begins as x, and each cycle composes its list with it. */
 static void compose_cycles(uint32_t p, size_t n, size_t cycles, uint32_t *out)
 {
     size_t places = RUHITAPO_WORK_PLACES(n, RUHITAPO_LONGEST_LIST), i, k;
     uint32_t *work = memory(places * sizeof *work), *running = memory(n * sizeof *running);
-    uint32_t *reduced = memory(RUHITAPO_LONGEST_LIST * sizeof *reduced);
     for (k = 0; k < n; k++)
         out[k] = k == 1;
     for (i = 0; i < cycles; i++) {
-        const struct list *list = lists + i % list_count;
-        ruhitapo_answer answer;
-        for (k = 0; k < list->count; k++)
-            reduced[k] = list->coefficient[k] % p;
+        const struct list *list = reduced_list(i, p);
         memcpy(running, out, n * sizeof *running);
-        answer = ruhitapo_compose(RUHITAPO_KINOSHITA_LI, p, n, reduced, list->count, running, n, out, n, work, places);
-        if (answer.number != RUHITAPO_ACCEPTED) {
-            fprintf(stderr, "joiner: ruhitapo_compose returned %" PRIu32 "\n", answer.number);
-            exit(1);
-        }
+        see_accepted("ruhitapo_compose", ruhitapo_compose(RUHITAPO_KINOSHITA_LI, p, n, list->coefficient, list->count,
+                                                          running, n, out, n, work, places).number);
     }
-    free(reduced);
     free(running);
     free(work);
 }
@@ -190,7 +221,10 @@ static void print_table(size_t n, size_t cycles)
     char *text = memory(n * LINE_BYTES);
     size_t bytes = 0, i, k;
     for (i = 0; i < RUHITAPO_PRIMES; i++)
-        compose_cycles(prime[i], n, cycles, residues + i * n);
+        if (constant_terms)
+            compose_cycles(prime[i], n, cycles, residues + i * n);
+        else
+            cycle_chain(prime[i], n, cycles, residues + i * n);
     for (k = 0; k < n; k++) {
         for (i = 0; i < RUHITAPO_PRIMES; i++)
             residue[i] = residues[i * n + k];
@@ -250,6 +284,7 @@ static void read_list(const char *words)
         if (*at++ != ',')
             stop("a list is whole numbers with commas between them, and this is not: ", words);
     }
+    constant_terms |= list->coefficient[0] != 0;
     list_count++;
 }
 
@@ -269,7 +304,7 @@ int main(int count, char **arguments)
     if (count < 4)
         stop("usage: joiner ORDER CYCLES LIST..., and joiner --help says more", "");
     n = count_from(arguments[1], 1, RUHITAPO_LARGEST_ORDER);
-    cycles = count_from(arguments[2], 0, MOST_CYCLES);
+    cycles = count_from(arguments[2], 0, RUHITAPO_MOST_CYCLES);
     for (i = 3; i < count; i++)
         read_list(arguments[i]);
     for (i = 0; i < (int)RUHITAPO_PRIMES; i++)

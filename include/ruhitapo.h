@@ -7,14 +7,16 @@
  * For every call, a refused one too:
  *   - a pointer is aligned for what it points to and is not null, where the count is 0 also. For an empty list pass the address of any
  *     object of the type; nothing is read or written there;
- *   - a list has as many places as its count says, readable, and writable too if it is lent to be written (out, work, text). Every place
- *     was written to before, by calloc for instance; what it holds does not matter in a list that is lent to be written;
- *   - out, work and text overlap no other list of the call. Lists that are only read may overlap each other, or be the same;
+ *   - a list has as many places as its count says, readable, and writable too if it is lent to be written (out, running, work, text).
+ *     Every place was written to before, by calloc for instance; what it holds does not matter in out, work and text, nor in running at an
+ *     opening;
+ *   - out, running, work and text overlap no other list of the call. Lists that are only read may overlap each other, or be the same;
  *   - nothing else changes a list of the call until it returns.
  *
  * A call answers with a number: 0 if it is accepted, else that of the first condition that holds, in the order of the call's tests, which
- * is given at the call. A refused call leaves every list as it was and returns 0 beside its number. No call stops the program, keeps
- * anything between calls or allocates memory, so several threads may call at a time, each with its own out, work and text.
+ * is given at the call. A refused call leaves every list as it was and returns 0 beside its number; a refused opening returns a chain of
+ * zeros, a refused cycle the chain as it was. No call stops the program, keeps anything between calls or allocates memory, so several
+ * threads may call at a time, each with its own out, running, work and text.
  */
 #ifndef RUHITAPO_H
 #define RUHITAPO_H
@@ -26,7 +28,7 @@
 extern "C" {
 #endif
 
-/* What a call returns. 10 to 13 belong to chains of cycles and to the job program; a text that is rendered may name them. */
+/* What a call returns. 12 and 13 belong to the job program; a text that is rendered may name them. */
 enum {
     RUHITAPO_ACCEPTED = 0,
     RUHITAPO_BAD_ROUTE = 1,             /* the route is not 1, 2, 3 or 4 */
@@ -45,7 +47,7 @@ enum {
     RUHITAPO_BAD_INDEX = 14             /* the index is 16 or more */
 };
 
-/* The routes of ruhitapo_compose. All give the same coefficients; the weights differ. */
+/* The routes of ruhitapo_compose and ruhitapo_cycle. All give the same coefficients; the weights differ. */
 enum {
     RUHITAPO_HORNER = 1,
     RUHITAPO_RANGED = 2,
@@ -57,10 +59,14 @@ enum {
 #define RUHITAPO_LARGEST_ORDER 4096u
 #define RUHITAPO_LONGEST_LIST 4096u
 #define RUHITAPO_LARGEST_MODULUS 2147483647u
+#define RUHITAPO_MOST_CYCLES 64u
 #define RUHITAPO_PRIMES 16u
 
 /* The places of work that compose (m the count of f) and reverse (m the count of g) ask for at order n. */
 #define RUHITAPO_WORK_PLACES(n, m) (128 * (size_t)(n) + 8 * (size_t)(m))
+
+/* The places of work that a cycle asks for at order n, m being the count of its list. */
+#define RUHITAPO_CYCLE_WORK_PLACES(n, m) (144 * (size_t)(n) + 8 * (size_t)(m))
 
 /* As many bytes hold every text for order n, and every refusal. At the largest order they are 45085, and no text has more. */
 #define RUHITAPO_TEXT_BYTES(n) (29 + 11 * (size_t)(n))
@@ -71,6 +77,31 @@ typedef struct ruhitapo_answer {
     uint32_t number;
     uint64_t weight;
 } ruhitapo_answer;
+
+/*
+ * A chain of cycles, as a call left it: its modulus, its order and the cycles done. ruhitapo_open gives the first, each ruhitapo_cycle takes
+ * one and gives the next: keep what a call returned and pass it on whole. A later version may add a field, and a program that does so stays
+ * as it is.
+ */
+typedef struct ruhitapo_chain {
+    uint32_t modulus;
+    size_t order;
+    uint32_t done;
+} ruhitapo_chain;
+
+/* What opening a chain answers. */
+typedef struct ruhitapo_open_answer {
+    uint32_t number;
+    uint64_t weight;
+    ruhitapo_chain chain;
+} ruhitapo_open_answer;
+
+/* What a cycle answers. */
+typedef struct ruhitapo_cycle_answer {
+    uint32_t number;
+    uint64_t weight;
+    ruhitapo_chain chain;
+} ruhitapo_cycle_answer;
 
 /* What the table answers. */
 typedef struct ruhitapo_prime_answer {
@@ -126,6 +157,54 @@ ruhitapo_answer ruhitapo_reverse(uint32_t p, size_t n,
                                  const uint32_t *g, size_t g_count,
                                  uint32_t *out, size_t out_count,
                                  uint32_t *work, size_t work_count);
+
+/*
+ * Opens a chain of modulus p and order n: the running series, which stands in the buffer `running`, becomes x modulo x^n.
+ *
+ * Refused if, tested in this order:
+ *   2  p is not prime or above 2147483647
+ *   3  n is 0 or above 4096
+ *   6  running_count is not n
+ *
+ * Accepted: running holds 0, then 1 (if n is above 1), then zeros; the chain has no cycle done; the weight is 0. Refused: the chain is
+ * zeros, which every cycle refuses.
+ */
+ruhitapo_open_answer ruhitapo_open(uint32_t p, size_t n, uint32_t *running, size_t running_count);
+
+/*
+ * What ruhitapo_cycle, below, calls; see there. The first arguments are the fields of the chain, and a later version may have more of them.
+ */
+ruhitapo_cycle_answer ruhitapo_cycle_numbers(uint32_t modulus, size_t order, uint32_t done, uint32_t route,
+                                             const uint32_t *list, size_t list_count,
+                                             uint32_t *running, size_t running_count,
+                                             uint32_t *work, size_t work_count);
+
+/*
+ * A cycle of the chain: the running series S becomes C(S) modulo x^n by the route named, C being the list. p is the chain's modulus, n its
+ * order. The buffer `running` holds the running series as the call before left it.
+ *
+ * Refused if, tested in this order:
+ *   1  route is not 1, 2, 3 or 4
+ *   2  p is not prime or above 2147483647
+ *   3  n is 0 or above 4096
+ *   5  list_count is above 4096
+ *   6  running_count is not n
+ *   7  work_count is below 144 n + 8 list_count
+ *   8  a coefficient of list or running is p or more
+ *  10  the constant term of list or running is not zero
+ *  11  64 or more cycles are done
+ *
+ * Accepted: running holds the n coefficients, each below p; the first 144 n + 8 list_count places of work are zero, later ones as before;
+ * the chain has one more cycle done; the weight is that of ruhitapo_compose with the list as f. Refused: the chain is as it was.
+ */
+static inline ruhitapo_cycle_answer ruhitapo_cycle(ruhitapo_chain chain, uint32_t route,
+                                                   const uint32_t *list, size_t list_count,
+                                                   uint32_t *running, size_t running_count,
+                                                   uint32_t *work, size_t work_count)
+{
+    return ruhitapo_cycle_numbers(chain.modulus, chain.order, chain.done, route, list, list_count, running, running_count,
+                                  work, work_count);
+}
 
 /*
  * Entry `index` of the table: the sixteen largest primes below 2147483648, largest first.

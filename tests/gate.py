@@ -20,6 +20,7 @@ STEPS = [
     "wrong-weights",
     "linked",
     "c-interface",
+    "installed",
     "joiner",
     "job-tool",
 ]

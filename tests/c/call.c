@@ -1,7 +1,6 @@
 /* Each call, made on fenced lists and held against the second implementation. */
 #include "call.h"
 #include "fence.h"
-#include "ruhitapo.h"
 
 #include <inttypes.h>
 #include <stdio.h>
@@ -13,6 +12,7 @@ char call_words[512];
 static const struct call *current;
 static struct fence f_fence, g_fence, out_fence, work_fence, text_fence;
 static char text[MOST_TEXT];
+static const struct chain no_chain = {0, 0, 0};
 
 void call_begin(void)
 {
@@ -84,10 +84,17 @@ static const uint32_t *inner_list(const struct call *c, const uint32_t *f)
     return c->g_in_f ? f : fence_list(&g_fence, c->g, c->g_count * sizeof *c->g, side(c, 1));
 }
 
-static void compare_work(size_t n, size_t m, uint32_t number)
+size_t call_work_places(enum kind kind, size_t n, size_t f_count, size_t g_count)
 {
+    return (kind == CYCLE ? 144 : 128) * n + 8 * (kind == REVERSE ? g_count : f_count);
+}
+
+/* After an accepted call the places asked for are zero. */
+static void compare_work(const struct call *c, uint32_t number)
+{
+    size_t places = call_work_places(c->kind, c->n, c->f_count, c->g_count);
     if (number == 0)
-        memset(fence_expected(&work_fence), 0, (128 * n + 8 * m) * sizeof(uint32_t));
+        memset(fence_expected(&work_fence), 0, places * sizeof(uint32_t));
     compare_buffer("work", &work_fence, sizeof(uint32_t));
 }
 
@@ -105,8 +112,8 @@ static struct returned make_compose(const struct call *c)
     if (number == 0)
         plain_compose(c->p, c->n, f, c->f_count, g, c->g_count, fence_expected(&out_fence));
     compare_buffer("output", &out_fence, sizeof *out);
-    compare_work(c->n, c->f_count, number);
-    return (struct returned){answer.number, answer.weight};
+    compare_work(c, number);
+    return (struct returned){answer.number, answer.weight, no_chain};
 }
 
 static struct returned make_reverse(const struct call *c)
@@ -121,8 +128,62 @@ static struct returned make_reverse(const struct call *c)
     if (number == 0)
         plain_reverse(c->p, c->n, g, c->g_count, fence_expected(&out_fence));
     compare_buffer("output", &out_fence, sizeof *out);
-    compare_work(c->n, c->g_count, number);
-    return (struct returned){answer.number, answer.weight};
+    compare_work(c, number);
+    return (struct returned){answer.number, answer.weight, no_chain};
+}
+
+/* The chain that came back, in plain numbers. */
+static struct chain compare_chain(struct chain expected, ruhitapo_chain found)
+{
+    call_compare("modulus", expected.modulus, found.modulus);
+    call_compare("order", expected.order, found.order);
+    call_compare("cycles done", expected.done, found.done);
+    return (struct chain){found.modulus, found.order, found.done};
+}
+
+static struct returned make_open(const struct call *c)
+{
+    uint32_t *running = fence_lend(&out_fence, c->out_count * sizeof *running, side(c, 2));
+    uint32_t number = plain_open_number(c->p, c->n, c->out_count), *expected = fence_expected(&out_fence);
+    ruhitapo_open_answer answer = ruhitapo_open(c->p, c->n, running, c->out_count);
+    struct chain chain = compare_chain(number == 0 ? (struct chain){c->p, c->n, 0} : no_chain, answer.chain);
+    size_t k;
+    compare_number(c, number, answer.number);
+    call_compare("weight", 0, answer.weight);
+    for (k = 0; number == 0 && k < c->n; k++)
+        expected[k] = k == 1;
+    compare_buffer("running", &out_fence, sizeof *running);
+    return (struct returned){answer.number, answer.weight, chain};
+}
+
+/* The library's answer to a cycle. */
+static ruhitapo_cycle_answer cycled(const struct call *c, const uint32_t *list, uint32_t *running, uint32_t *work)
+{
+    ruhitapo_chain chain = {c->p, c->n, c->done};
+    if (c->cycle != NULL)
+        return c->cycle(chain, c->route, list, c->f_count, running, c->out_count, work, c->work_count);
+    return ruhitapo_cycle_numbers(c->p, c->n, c->done, c->route, list, c->f_count, running, c->out_count, work, c->work_count);
+}
+
+static struct returned make_cycle(const struct call *c)
+{
+    const uint32_t *list = fence_list(&f_fence, c->f, c->f_count * sizeof *list, side(c, 0));
+    uint32_t *running = fence_lend(&out_fence, c->out_count * sizeof *running, side(c, 2));
+    uint32_t *work = fence_lend(&work_fence, c->work_count * sizeof *work, side(c, 3));
+    uint32_t number = plain_cycle_number(c->route, c->p, c->n, c->done, list, c->f_count, c->g, c->out_count, c->work_count);
+    ruhitapo_cycle_answer answer;
+    struct chain chain;
+    memcpy(running, c->g, c->out_count * sizeof *running);
+    memcpy(fence_expected(&out_fence), c->g, c->out_count * sizeof *running);
+    answer = cycled(c, list, running, work);
+    compare_number(c, number, answer.number);
+    call_compare("weight", number == 0 ? plain_weight(c->route, c->p, c->n, c->f_count) : 0, answer.weight);
+    chain = compare_chain((struct chain){c->p, c->n, c->done + (number == 0)}, answer.chain);
+    if (number == 0)
+        plain_compose(c->p, c->n, list, c->f_count, c->g, c->n, fence_expected(&out_fence));
+    compare_buffer("running", &out_fence, sizeof *running);
+    compare_work(c, number);
+    return (struct returned){answer.number, answer.weight, chain};
 }
 
 static struct returned make_prime(const struct call *c)
@@ -131,7 +192,7 @@ static struct returned make_prime(const struct call *c)
     uint32_t number = plain_prime_number(c->index);
     compare_number(c, number, answer.number);
     call_compare("prime", number == 0 ? plain_table(c->index) : 0, answer.prime);
-    return (struct returned){answer.number, answer.prime};
+    return (struct returned){answer.number, answer.prime, no_chain};
 }
 
 size_t call_text_bytes(const struct call *c)
@@ -151,22 +212,23 @@ static struct returned make_render(const struct call *c)
     if (number == 0)
         memcpy(fence_expected(&text_fence), text, bytes);
     compare_buffer("text", &text_fence, 1);
-    return (struct returned){answer.number, answer.count};
+    return (struct returned){answer.number, answer.count, no_chain};
 }
 
 static void describe(const struct call *c)
 {
-    static const char *names[] = {"compose", "reverse", "prime", "render"};
+    static const char *names[] = {"compose", "reverse", "open", "cycle", "prime", "render"};
     snprintf(call_words, sizeof call_words,
-             "call %" PRIu64 ": %s, route %" PRIu32 ", p %" PRIu32 ", n %zu, index %" PRIu32 ", number %" PRIu32 ", weight %" PRIu64
-             ", counts: f %zu, g %zu%s, out %zu, work %zu, text %zu, sides %u",
-             tally.calls, names[c->kind], c->route, c->p, c->n, c->index, c->number, c->weight, c->f_count, c->g_count,
-             c->g_in_f ? " (a part of f)" : "", c->out_count, c->work_count, c->text_count, c->sides);
+             "call %" PRIu64 ": %s%s, route %" PRIu32 ", p %" PRIu32 ", n %zu, done %" PRIu32 ", index %" PRIu32 ", number %" PRIu32
+             ", weight %" PRIu64 ", counts: f %zu, g %zu%s, out %zu, work %zu, text %zu, sides %u",
+             tally.calls, names[c->kind], c->cycle != NULL ? " by the header" : "", c->route, c->p, c->n, c->done, c->index, c->number,
+             c->weight, c->f_count, c->g_count, c->g_in_f ? " (a part of f)" : "", c->out_count, c->work_count, c->text_count, c->sides);
 }
 
 struct returned call_make(const struct call *call)
 {
-    static struct returned (*const makes[])(const struct call *) = {make_compose, make_reverse, make_prime, make_render};
+    static struct returned (*const makes[])(const struct call *) = {make_compose, make_reverse, make_open, make_cycle,
+                                                                    make_prime, make_render};
     current = call;
     describe(call);
     tally.calls++;

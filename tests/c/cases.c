@@ -49,6 +49,7 @@ static size_t one_off(size_t count)
     return count > 0 && random_below(2) == 0 ? count - 1 : count + 1;
 }
 
+/* A composition, a reversion, or a cycle of a chain that was opened or forged. */
 static void valid_composition(struct call *c)
 {
     c->p = random_modulus();
@@ -67,7 +68,12 @@ static void valid_composition(struct call *c)
         c->g_count += 2;
         c->f_count = 0;
     }
-    c->work_count = 128 * c->n + 8 * (c->kind == REVERSE ? c->g_count : c->f_count) + spare();
+    if (c->kind == CYCLE) {
+        c->f[0] = c->g[0] = 0;
+        c->g_count = c->out_count;
+        c->done = (uint32_t)random_below(64);
+    }
+    c->work_count = call_work_places(c->kind, c->n, c->f_count, c->g_count) + spare();
 }
 
 static void damage_order(struct call *c)
@@ -96,27 +102,38 @@ static void damage_reversion(struct call *c)
         c->g_count = random_below(2);
 }
 
+/* A constant term, or so many cycles done. */
+static void damage_chain(struct call *c)
+{
+    static const uint32_t counts[] = {63, 64, 65, 128, UINT32_MAX};
+    if (random_below(2) == 0)
+        c->done = random_below(3) == 0 ? (uint32_t)random_word() : counts[random_below(COUNT(counts))];
+    else if (random_below(2) == 0)
+        c->f[0] = 1;
+    else
+        c->g[0] = 1;
+}
+
 static void damage_composition(struct call *c)
 {
     switch (1 + random_below(9)) {
     case 1: c->route = (uint32_t)(random_below(3) == 0 ? random_word() : 5 * random_below(2)); break;
     case 2: c->p = bad_moduli[random_below(COUNT(bad_moduli))]; break;
     case 3: damage_order(c); break;
-    case 4: c->f_count = c->kind == COMPOSE ? 4097 + random_below(3) : 0; break;
-    case 5: c->g_count = 4097 + random_below(3); break;
+    case 4: c->f_count = c->kind == REVERSE ? 0 : 4097 + random_below(3); break;
+    case 5: c->g_count = c->kind == CYCLE ? c->g_count : 4097 + random_below(3); break;
     case 6: c->out_count = random_below(3) == 0 ? 0 : one_off(c->out_count); break;
     case 7: c->work_count = random_below(3) == 0 ? 0 : random_below(c->work_count + 1); break;
     case 8: damage_coefficient(c); break;
-    default: damage_reversion(c); break;
+    default: c->kind == CYCLE ? damage_chain(c) : damage_reversion(c); break;
     }
 }
 
 /* Work one place short of what is asked for, at the counts as they stand. */
 static void shorten_work(struct call *c)
 {
-    size_t m = c->kind == REVERSE ? c->g_count : c->f_count;
     if (c->n >= 1 && c->n <= 4096)
-        c->work_count = 128 * c->n + 8 * m - 1;
+        c->work_count = call_work_places(c->kind, c->n, c->f_count, c->g_count) - 1;
 }
 
 static void share(struct call *c)
@@ -137,6 +154,19 @@ static void random_composition(struct call *c)
     if (random_below(16) == 0)
         shorten_work(c);
     share(c);
+}
+
+static void random_opening(struct call *c)
+{
+    uint64_t damages = random_below(2) == 0 ? 0 : 1 + random_below(2);
+    c->p = random_modulus();
+    c->n = c->out_count = random_order();
+    for (; damages > 0; damages--)
+        switch (random_below(3)) {
+        case 0: c->p = bad_moduli[random_below(COUNT(bad_moduli))]; break;
+        case 1: damage_order(c); break;
+        default: c->out_count = random_below(3) == 0 ? 0 : one_off(c->out_count); break;
+        }
 }
 
 /* A number of any length, in bits. */
@@ -165,17 +195,20 @@ static void random_rendering(struct call *c)
 
 void random_call(struct call *c)
 {
-    uint64_t which = random_below(20);
-    c->kind = which < 10 ? COMPOSE : which < 15 ? REVERSE : which < 16 ? PRIME : RENDER;
-    c->route = c->p = c->index = c->number = 0;
+    uint64_t which = random_below(24);
+    c->kind = which < 8 ? COMPOSE : which < 12 ? REVERSE : which < 17 ? CYCLE : which < 19 ? OPEN : which < 20 ? PRIME : RENDER;
+    c->route = c->p = c->done = c->index = c->number = 0;
     c->weight = 0;
     c->n = c->f_count = c->g_count = c->out_count = c->work_count = c->text_count = 0;
+    c->cycle = random_below(2) == 0 ? ruhitapo_cycle : NULL;
     c->g_in_f = 0;
     c->sides = (unsigned)random_below(32);
     if (c->kind == PRIME)
         c->index = (uint32_t)(random_below(4) == 0 ? random_word() : random_below(18));
     else if (c->kind == RENDER)
         random_rendering(c);
+    else if (c->kind == OPEN)
+        random_opening(c);
     else
         random_composition(c);
 }

@@ -4,11 +4,12 @@
 
 #include "call.h"
 
-/* What stands at the last place of f, or of g where f is empty. */
-enum last { ANY, BELOW, EQUAL };
+/* What stands at the last place of f, or of g where f is empty: p - 1 or p. CONSTANT puts 1 at the first place instead. */
+enum last { ANY, BELOW, EQUAL, CONSTANT };
 
 /* A call at one side of an edge. out_more and work_more are added to the counts asked for; work stands for the text in a rendering. The
-   route is the index or the number where there is no route. */
+   route is the index or the number where there is no route, g_count the cycles done in a cycle, whose running series is as long as the
+   output. */
 struct edge {
     enum kind kind;
     uint32_t route, p;
@@ -23,7 +24,10 @@ void edge_call(struct call *call, const struct edge *edge);
 /* Makes every call of the table of edges, its lists at both sides. */
 void edges_make(void);
 
-/* Holds the constants, macros and structs of the header against plain numbers and makes calls at the edge of each. */
+/* Opens chains and cycles them until they are full, each call given the chain that the one before left, with refused calls among them. */
+void chains_make(void);
+
+/* Holds the constants, macros, structs and the function of the header against plain numbers and makes calls at the edge of each. */
 void header_make(void);
 
 /* A random call: valid, or damaged in one to three places. */

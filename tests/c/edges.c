@@ -28,6 +28,22 @@ static const struct edge edges[] = {
     {REVERSE, 0, 7, 5, 0, 4096, 0, 0, ANY}, {REVERSE, 0, 7, 5, 0, 4097, 0, 0, ANY},
     {REVERSE, 0, 7, 5, 0, 4, 1, 0, ANY}, {REVERSE, 0, 7, 5, 0, 4, -1, 0, ANY}, {REVERSE, 0, 7, 5, 0, 4, 0, -1, ANY},
     {REVERSE, 0, 7, 5, 0, 4, 0, 0, BELOW}, {REVERSE, 0, 7, 5, 0, 4, 0, 0, EQUAL}, {REVERSE, 0, 4, 5, 0, 4, 0, 0, ANY},
+    {OPEN, 0, 7, 0, 0, 0, 0, 0, ANY}, {OPEN, 0, 7, 1, 0, 0, 0, 0, ANY}, {OPEN, 0, 7, 2, 0, 0, 0, 0, ANY},
+    {OPEN, 0, LARGEST, 4096, 0, 0, 0, 0, ANY}, {OPEN, 0, 7, 4097, 0, 0, 0, 0, ANY}, {OPEN, 0, 7, 4, 0, 0, 1, 0, ANY},
+    {OPEN, 0, 7, 4, 0, 0, -1, 0, ANY}, {OPEN, 0, 1, 4, 0, 0, 0, 0, ANY}, {OPEN, 0, 2, 4, 0, 0, 0, 0, ANY},
+    {OPEN, 0, LARGEST + 1, 4, 0, 0, 0, 0, ANY}, {OPEN, 0, 4, 0, 0, 0, 1, 0, ANY}, {OPEN, 0, 7, 0, 0, 0, 1, 0, ANY},
+    {CYCLE, 0, 7, 4, 3, 0, 0, 0, ANY}, {CYCLE, 1, 7, 4, 3, 0, 0, 0, ANY}, {CYCLE, 2, 7, 4, 3, 0, 0, 0, ANY},
+    {CYCLE, 3, 7, 4, 3, 0, 0, 0, ANY}, {CYCLE, 4, 7, 4, 3, 0, 0, 0, ANY}, {CYCLE, 5, 7, 4, 3, 0, 0, 0, ANY},
+    {CYCLE, 1, 0, 0, 3, 0, 0, 0, ANY}, {CYCLE, 1, 1, 4, 3, 0, 0, 0, ANY}, {CYCLE, 1, 2, 4, 3, 0, 0, 0, ANY}, {CYCLE, 1, LARGEST, 4, 3, 0, 0, 0, ANY},
+    {CYCLE, 1, LARGEST + 1, 4, 3, 0, 0, 0, ANY}, {CYCLE, 1, 7, 0, 3, 0, 0, 0, ANY}, {CYCLE, 1, 7, 1, 3, 0, 0, 0, ANY},
+    {CYCLE, 4, LARGEST, 4096, 3, 0, 0, 0, ANY}, {CYCLE, 1, 7, 4097, 3, 0, 0, 0, ANY}, {CYCLE, 1, 7, 3, 0, 0, 0, 0, ANY},
+    {CYCLE, 1, 7, 3, 4096, 0, 0, 0, ANY}, {CYCLE, 2, LARGEST, 3, 4096, 0, 0, 0, ANY}, {CYCLE, 1, 7, 3, 4097, 0, 0, 0, ANY},
+    {CYCLE, 1, 7, 4, 3, 0, 1, 0, ANY}, {CYCLE, 1, 7, 4, 3, 0, -1, 0, ANY}, {CYCLE, 1, 7, 4, 3, 0, 0, 1, ANY},
+    {CYCLE, 1, 7, 4, 3, 0, 0, -1, ANY}, {CYCLE, 4, 7, 4, 0, 0, 0, -1, ANY}, {CYCLE, 1, 7, 4, 3, 0, 0, 0, BELOW},
+    {CYCLE, 1, 7, 4, 3, 0, 0, 0, EQUAL}, {CYCLE, 1, 7, 4, 0, 0, 0, 0, BELOW}, {CYCLE, 1, 7, 4, 0, 0, 0, 0, EQUAL},
+    {CYCLE, 1, 7, 4, 3, 0, 0, 0, CONSTANT}, {CYCLE, 1, 7, 4, 0, 0, 0, 0, CONSTANT}, {CYCLE, 1, 7, 4, 3, 63, 0, 0, ANY},
+    {CYCLE, 1, 7, 4, 3, 64, 0, 0, ANY}, {CYCLE, 1, 7, 4, 3, 65, 0, 0, ANY}, {CYCLE, 4, 7, 4, 3, UINT32_MAX, 0, 0, ANY},
+    {CYCLE, 0, 4, 0, 4097, 64, 1, -1, EQUAL}, {CYCLE, 1, 7, 4, 3, 64, 0, 0, CONSTANT}, {CYCLE, 1, 7, 4, 3, 64, 0, -1, EQUAL},
     {PRIME, 0, 0, 0, 0, 0, 0, 0, ANY}, {PRIME, 15, 0, 0, 0, 0, 0, 0, ANY}, {PRIME, 16, 0, 0, 0, 0, 0, 0, ANY},
     {RENDER, 0, 0, 0, 0, 0, 0, 0, ANY}, {RENDER, 0, 0, 1, 0, 1, 0, 0, ANY}, {RENDER, 0, 0, 1, 0, 1, 0, -1, ANY},
     {RENDER, 0, 0, 4096, 0, 4096, 0, 0, ANY}, {RENDER, 0, 0, 4096, 0, 4096, 0, -1, ANY},
@@ -37,18 +53,23 @@ static const struct edge edges[] = {
     {RENDER, 4294967295u, 0, 4, 0, 3, 0, -1, ANY}, {RENDER, 10, 0, 0, 0, 0, 0, 1, ANY},
 };
 
-/* The lists of a composition or a reversion. */
-static void fill_lists(struct call *c, const struct edge *e)
+/* The lists of a composition, a reversion or a cycle. */
+static void fill_lists(struct call *c, enum last last)
 {
-    uint32_t *last = e->f_count > 0 ? c->f + e->f_count - 1 : c->g + (e->g_count > 0 ? e->g_count - 1 : 0);
-    random_list(c->p, c->f, MOST_PLACES);
-    random_list(c->p, c->g, MOST_PLACES);
+    uint32_t *list = c->f_count > 0 ? c->f : c->g;
+    size_t count = c->f_count > 0 ? c->f_count : c->g_count;
+    random_list(c->p > 0 ? c->p : 1, c->f, MOST_PLACES);
+    random_list(c->p > 0 ? c->p : 1, c->g, MOST_PLACES);
     if (c->kind == REVERSE) {
         c->g[0] = 0;
         c->g[1] = 1;
     }
-    if (e->last != ANY)
-        *last = e->last == EQUAL ? c->p : c->p - 1;
+    if (c->kind == CYCLE)
+        c->f[0] = c->g[0] = 0;
+    if (last == CONSTANT)
+        list[0] = 1;
+    else if (last != ANY)
+        list[count > 0 ? count - 1 : 0] = last == EQUAL ? c->p : c->p - 1;
 }
 
 /* A row for rendering; BELOW asks for the longest text. */
@@ -72,11 +93,15 @@ void edge_call(struct call *c, const struct edge *e)
     c->f_count = e->f_count;
     c->g_count = e->g_count;
     c->out_count = (e->n <= 4096 ? e->n : 4097) + (size_t)e->out_more;
-    c->work_count = 128 * (e->n <= 4096 ? e->n : 1) + 8 * (e->kind == REVERSE ? e->g_count : e->f_count) + (size_t)e->work_more;
+    if (e->kind == CYCLE) {
+        c->done = (uint32_t)e->g_count;
+        c->g_count = c->out_count;
+    }
+    c->work_count = call_work_places(c->kind, e->n <= 4096 ? e->n : 1, c->f_count, c->g_count) + (size_t)e->work_more;
     if (e->kind == RENDER)
         fill_rendering(c, e);
-    else if (e->kind != PRIME)
-        fill_lists(c, e);
+    else if (e->kind == COMPOSE || e->kind == REVERSE || e->kind == CYCLE)
+        fill_lists(c, e->last);
 }
 
 void edges_make(void)
@@ -86,6 +111,7 @@ void edges_make(void)
     for (i = 0; i < 2 * sizeof edges / sizeof *edges; i++) {
         edge_call(&call, edges + i / 2);
         call.sides = i % 2 == 0 ? 31 : 0;
+        call.cycle = i % 2 == 0 ? ruhitapo_cycle : NULL;
         call_make(&call);
     }
 }

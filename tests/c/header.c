@@ -1,9 +1,8 @@
 /*
  * The header: every constant, macro and struct against plain numbers, and each at its edge, where a call that is made with it is accepted
- * and a call one beyond is refused.
+ * and a call one beyond is refused; and the function that the header itself defines.
  */
 #include "cases.h"
-#include "ruhitapo.h"
 
 #include <stdio.h>
 #include <string.h>
@@ -39,17 +38,32 @@ static const struct {
     IS(4096, RUHITAPO_LARGEST_ORDER),
     IS(4096, RUHITAPO_LONGEST_LIST),
     IS(2147483647, RUHITAPO_LARGEST_MODULUS),
+    IS(64, RUHITAPO_MOST_CYCLES),
     IS(16, RUHITAPO_PRIMES),
     IS(45085, RUHITAPO_MOST_TEXT_BYTES),
     /* in a product, with sums as arguments, and beyond 32 bits */
     IS(2 * (128 * 4 + 8 * 3), 2 * RUHITAPO_WORK_PLACES(1 + 3, 1 + 2)),
     IS(UINT64_C(136) * UINT32_MAX, RUHITAPO_WORK_PLACES(UINT32_MAX, UINT32_MAX)),
+    IS(2 * (144 * 4 + 8 * 3), 2 * RUHITAPO_CYCLE_WORK_PLACES(1 + 3, 1 + 2)),
+    IS(UINT64_C(152) * UINT32_MAX, RUHITAPO_CYCLE_WORK_PLACES(UINT32_MAX, UINT32_MAX)),
     IS(2 * (29 + 11 * 4), 2 * RUHITAPO_TEXT_BYTES(1 + 3)),
     IS(29 + UINT64_C(11) * UINT32_MAX, RUHITAPO_TEXT_BYTES(UINT32_MAX)),
     /* the structs as the library lays them out */
     IS(16, sizeof(ruhitapo_answer)),
     IS(0, offsetof(ruhitapo_answer, number)),
     IS(8, offsetof(ruhitapo_answer, weight)),
+    IS(24, sizeof(ruhitapo_chain)),
+    IS(0, offsetof(ruhitapo_chain, modulus)),
+    IS(8, offsetof(ruhitapo_chain, order)),
+    IS(16, offsetof(ruhitapo_chain, done)),
+    IS(40, sizeof(ruhitapo_open_answer)),
+    IS(0, offsetof(ruhitapo_open_answer, number)),
+    IS(8, offsetof(ruhitapo_open_answer, weight)),
+    IS(16, offsetof(ruhitapo_open_answer, chain)),
+    IS(40, sizeof(ruhitapo_cycle_answer)),
+    IS(0, offsetof(ruhitapo_cycle_answer, number)),
+    IS(8, offsetof(ruhitapo_cycle_answer, weight)),
+    IS(16, offsetof(ruhitapo_cycle_answer, chain)),
     IS(8, sizeof(ruhitapo_prime_answer)),
     IS(0, offsetof(ruhitapo_prime_answer, number)),
     IS(4, offsetof(ruhitapo_prime_answer, prime)),
@@ -78,6 +92,13 @@ static void compare_fields(void)
 {
     FIELD(4, ruhitapo_answer, number);
     FIELD(8, ruhitapo_answer, weight);
+    FIELD(4, ruhitapo_chain, modulus);
+    FIELD(sizeof(size_t), ruhitapo_chain, order);
+    FIELD(4, ruhitapo_chain, done);
+    FIELD(4, ruhitapo_open_answer, number);
+    FIELD(8, ruhitapo_open_answer, weight);
+    FIELD(4, ruhitapo_cycle_answer, number);
+    FIELD(8, ruhitapo_cycle_answer, weight);
     FIELD(4, ruhitapo_prime_answer, number);
     FIELD(4, ruhitapo_prime_answer, prime);
     FIELD(4, ruhitapo_text_answer, number);
@@ -103,16 +124,25 @@ static const struct {
     RETURNS(RUHITAPO_BUFFER_TOO_SHORT, COMPOSE, 1, 7, 4, 3, 3, 0, -1),
     {"RUHITAPO_COEFFICIENT_TOO_LARGE", RUHITAPO_COEFFICIENT_TOO_LARGE, {COMPOSE, 1, 7, 4, 3, 3, 0, 0, EQUAL}},
     RETURNS(RUHITAPO_NO_REVERSE_SERIES, REVERSE, 0, 7, 2, 0, 1, 0, 0),
+    {"RUHITAPO_CONSTANT_TERM", RUHITAPO_CONSTANT_TERM, {CYCLE, 1, 7, 4, 3, 0, 0, 0, CONSTANT}},
+    RETURNS(RUHITAPO_CHAIN_FULL, CYCLE, 1, 7, 4, 3, 64, 0, 0),
     RETURNS(RUHITAPO_BAD_INDEX, PRIME, 16, 0, 0, 0, 0, 0, 0),
     LIMIT(0, RUHITAPO_LARGEST_ORDER, COMPOSE, 1, 7, RUHITAPO_LARGEST_ORDER, 2, 3, 0, 0),
     LIMIT(3, RUHITAPO_LARGEST_ORDER, COMPOSE, 1, 7, RUHITAPO_LARGEST_ORDER + 1, 2, 3, 0, 0),
     LIMIT(0, RUHITAPO_LARGEST_ORDER, RENDER, 0, 0, RUHITAPO_LARGEST_ORDER, 0, RUHITAPO_LARGEST_ORDER, 0, 0),
     LIMIT(3, RUHITAPO_LARGEST_ORDER, RENDER, 0, 0, RUHITAPO_LARGEST_ORDER + 1, 0, RUHITAPO_LARGEST_ORDER + 1, 0, 0),
+    LIMIT(0, RUHITAPO_LARGEST_ORDER, OPEN, 0, 7, RUHITAPO_LARGEST_ORDER, 0, 0, 0, 0),
+    LIMIT(3, RUHITAPO_LARGEST_ORDER, OPEN, 0, 7, RUHITAPO_LARGEST_ORDER + 1, 0, 0, 0, 0),
     LIMIT(0, RUHITAPO_LONGEST_LIST, COMPOSE, 1, 7, 2, RUHITAPO_LONGEST_LIST, RUHITAPO_LONGEST_LIST, 0, 0),
     LIMIT(4, RUHITAPO_LONGEST_LIST, COMPOSE, 1, 7, 2, RUHITAPO_LONGEST_LIST + 1, RUHITAPO_LONGEST_LIST, 0, 0),
     LIMIT(5, RUHITAPO_LONGEST_LIST, COMPOSE, 1, 7, 2, RUHITAPO_LONGEST_LIST, RUHITAPO_LONGEST_LIST + 1, 0, 0),
     LIMIT(0, RUHITAPO_LONGEST_LIST, REVERSE, 0, 7, 2, 0, RUHITAPO_LONGEST_LIST, 0, 0),
     LIMIT(5, RUHITAPO_LONGEST_LIST, REVERSE, 0, 7, 2, 0, RUHITAPO_LONGEST_LIST + 1, 0, 0),
+    LIMIT(0, RUHITAPO_LONGEST_LIST, CYCLE, 1, 7, 2, RUHITAPO_LONGEST_LIST, 0, 0, 0),
+    LIMIT(5, RUHITAPO_LONGEST_LIST, CYCLE, 1, 7, 2, RUHITAPO_LONGEST_LIST + 1, 0, 0, 0),
+    LIMIT(0, RUHITAPO_MOST_CYCLES, CYCLE, 1, 7, 4, 3, RUHITAPO_MOST_CYCLES - 1, 0, 0),
+    LIMIT(11, RUHITAPO_MOST_CYCLES, CYCLE, 1, 7, 4, 3, RUHITAPO_MOST_CYCLES, 0, 0),
+    LIMIT(0, RUHITAPO_LARGEST_MODULUS, OPEN, 0, RUHITAPO_LARGEST_MODULUS, 4, 0, 0, 0, 0),
     LIMIT(0, RUHITAPO_LARGEST_MODULUS, COMPOSE, 1, RUHITAPO_LARGEST_MODULUS, 4, 3, 3, 0, 0),
     LIMIT(0, RUHITAPO_LARGEST_MODULUS, REVERSE, 0, RUHITAPO_LARGEST_MODULUS, 4, 0, 3, 0, 0),
     LIMIT(0, RUHITAPO_PRIMES, PRIME, RUHITAPO_PRIMES - 1, 0, 0, 0, 0, 0, 0),
@@ -158,21 +188,53 @@ static void compare_routes(void)
     }
 }
 
-/* Work of just the places is enough, and one less is not. */
+/* Work of just so many places is enough, and one less is not. */
+static void compare_places(const char *name, const struct edge *edge, size_t places)
+{
+    static struct call call;
+    size_t less;
+    for (less = 0; less < 2; less++) {
+        edge_call(&call, edge);
+        call.work_count = places - less;
+        call_compare(name, less == 0 ? 0 : 7, call_make(&call).number);
+    }
+}
+
 static void compare_work_places(void)
 {
     static const struct {
         size_t n, m;
     } sizes[] = {{1, 2}, {2, 2}, {2, 3}, {9, 17}, {500, 3}, {3, 4096}};
-    static struct call call;
     size_t i;
-    for (i = 0; i < 4 * COUNT(sizes); i++) {
-        size_t n = sizes[i / 4].n, m = sizes[i / 4].m, less = i % 2;
-        const struct edge kinds[] = {{COMPOSE, 1, 7, n, m, 1, 0, 0, ANY}, {REVERSE, 0, 7, n, 0, m, 0, 0, ANY}};
-        edge_call(&call, kinds + i / 2 % 2);
-        call.work_count = RUHITAPO_WORK_PLACES(n, m) - less;
-        call_compare("RUHITAPO_WORK_PLACES", less == 0 ? 0 : 7, call_make(&call).number);
+    for (i = 0; i < COUNT(sizes); i++) {
+        size_t n = sizes[i].n, m = sizes[i].m;
+        const struct edge compose = {COMPOSE, 1, 7, n, m, 1, 0, 0, ANY}, reverse = {REVERSE, 0, 7, n, 0, m, 0, 0, ANY};
+        const struct edge cycle = {CYCLE, 1, 7, n, m, 0, 0, 0, ANY};
+        compare_places("RUHITAPO_WORK_PLACES", &compose, RUHITAPO_WORK_PLACES(n, m));
+        compare_places("RUHITAPO_WORK_PLACES", &reverse, RUHITAPO_WORK_PLACES(n, m));
+        compare_places("RUHITAPO_CYCLE_WORK_PLACES", &cycle, RUHITAPO_CYCLE_WORK_PLACES(n, m));
     }
+}
+
+/* The header's own function passes every number and list on and hands back what comes: cycles by it, at both sides of every test. */
+static void compare_cycle(void)
+{
+    static const struct edge edges[] = {
+        {CYCLE, 0, 7, 4, 3, 0, 0, 0, ANY},   {CYCLE, 1, 7, 4, 3, 0, 0, 0, ANY},    {CYCLE, 2, 11, 9, 12, 5, 0, 0, ANY},
+        {CYCLE, 3, 5, 9, 12, 63, 0, 0, ANY}, {CYCLE, 4, 13, 9, 12, 62, 0, 0, ANY}, {CYCLE, 1, 9, 4, 3, 7, 0, 0, ANY},
+        {CYCLE, 1, 7, 0, 3, 0, 0, 0, ANY},   {CYCLE, 1, 7, 2, 4097, 0, 0, 0, ANY}, {CYCLE, 1, 7, 4, 3, 0, 1, 0, ANY},
+        {CYCLE, 1, 7, 4, 3, 0, 0, -1, ANY},  {CYCLE, 1, 7, 4, 3, 0, 0, 0, EQUAL},  {CYCLE, 1, 7, 4, 3, 0, 0, 0, CONSTANT},
+        {CYCLE, 1, 7, 4, 3, 64, 0, 0, ANY},  {CYCLE, 1, 7, 4, 3, 0, 0, 5, ANY},    {CYCLE, 4, 2147483647, 3, 2, 1, 0, 0, ANY},
+    };
+    static struct call call;
+    uint64_t before = tally.differences;
+    size_t i;
+    for (i = 0; i < COUNT(edges) && tally.differences == before; i++) {
+        edge_call(&call, edges + i);
+        call.cycle = ruhitapo_cycle;
+        call_make(&call);
+    }
+    call_compare("ruhitapo_cycle: differences of a call", 0, tally.differences - before);
 }
 
 /* What rendering returns for the longest text of order n, or for a refusal, into so many bytes. */
@@ -207,6 +269,9 @@ void header_make(void)
 {
     compare_constants();
     compare_fields();
+    /* a chain passes by value where both sides lay it out alike */
+    if (tally.differences == 0)
+        compare_cycle();
     make_calls();
     beyond_largest_modulus();
     compare_routes();

@@ -1,6 +1,6 @@
 /*
- * The C interface, held against a plain second implementation in C: the header, every edge, then seeded random calls, on lists between
- * pages that are shut. Arguments: the seed and the count of calls.
+ * The C interface, held against a plain second implementation in C: the header, every edge, whole chains, then seeded random calls, on lists
+ * between pages that are shut. Arguments: the seed and the count of calls.
  */
 #define _DEFAULT_SOURCE
 #include "call.h"
@@ -59,8 +59,8 @@ static int missing(void)
     static const struct {
         const char *name;
         const uint32_t *tests;
-    } calls[KINDS] = {{"compose", plain_compose_tests}, {"reverse", plain_reverse_tests},
-                      {"prime", plain_prime_tests}, {"render", plain_render_tests}};
+    } calls[KINDS] = {{"compose", plain_compose_tests}, {"reverse", plain_reverse_tests}, {"open", plain_open_tests},
+                      {"cycle", plain_cycle_tests}, {"prime", plain_prime_tests}, {"render", plain_render_tests}};
     const uint32_t *test;
     int kind, count = 0;
     for (kind = 0; kind < KINDS; kind++) {
@@ -85,6 +85,7 @@ int main(int count, char **arguments)
     call_begin();
     header_make();
     edges_make();
+    chains_make();
     while (tally.calls < calls) {
         random_call(&call);
         call_make(&call);

@@ -15,12 +15,16 @@ uint32_t plain_table(uint32_t index);
 #define NUMBERS 32u
 
 /* The numbers that each call tests, in the order in which it tests them; 0 ends the list. */
-extern const uint32_t plain_compose_tests[], plain_reverse_tests[], plain_prime_tests[], plain_render_tests[];
+extern const uint32_t plain_compose_tests[], plain_reverse_tests[], plain_open_tests[], plain_cycle_tests[], plain_prime_tests[],
+    plain_render_tests[];
 
 /* The number that each call returns. */
 uint32_t plain_compose_number(uint32_t route, uint32_t p, size_t n, const uint32_t *f, size_t f_count,
                               const uint32_t *g, size_t g_count, size_t out_count, size_t work_count);
 uint32_t plain_reverse_number(uint32_t p, size_t n, const uint32_t *g, size_t g_count, size_t out_count, size_t work_count);
+uint32_t plain_open_number(uint32_t p, size_t n, size_t running_count);
+uint32_t plain_cycle_number(uint32_t route, uint32_t p, size_t n, uint32_t done, const uint32_t *list, size_t list_count,
+                            const uint32_t *running, size_t running_count, size_t work_count);
 uint32_t plain_prime_number(uint32_t index);
 uint32_t plain_render_number(uint32_t number, size_t n, size_t list_count, size_t bytes, size_t text_count);
 

@@ -3,6 +3,8 @@
 
 const uint32_t plain_compose_tests[] = {1, 2, 3, 4, 5, 6, 7, 8, 0};
 const uint32_t plain_reverse_tests[] = {2, 3, 5, 6, 7, 8, 9, 0};
+const uint32_t plain_open_tests[] = {2, 3, 6, 0};
+const uint32_t plain_cycle_tests[] = {1, 2, 3, 5, 6, 7, 8, 10, 11, 0};
 const uint32_t plain_prime_tests[] = {14, 0};
 const uint32_t plain_render_tests[] = {3, 6, 7, 0};
 
@@ -68,6 +70,33 @@ uint32_t plain_reverse_number(uint32_t p, size_t n, const uint32_t *g, size_t g_
         [9] = irreversible(n, g, g_count),
     };
     return first(plain_reverse_tests, fires);
+}
+
+uint32_t plain_open_number(uint32_t p, size_t n, size_t running_count)
+{
+    const int fires[NUMBERS] = {
+        [2] = bad_modulus(p),
+        [3] = bad_order(n),
+        [6] = running_count != n,
+    };
+    return first(plain_open_tests, fires);
+}
+
+uint32_t plain_cycle_number(uint32_t route, uint32_t p, size_t n, uint32_t done, const uint32_t *list, size_t list_count,
+                            const uint32_t *running, size_t running_count, size_t work_count)
+{
+    const int fires[NUMBERS] = {
+        [1] = route < 1 || route > 4,
+        [2] = bad_modulus(p),
+        [3] = bad_order(n),
+        [5] = list_count > 4096,
+        [6] = running_count != n,
+        [7] = work_count < 144 * n + 8 * list_count,
+        [8] = exceeds(p, list, list_count) || exceeds(p, running, running_count),
+        [10] = (list_count > 0 && list[0] != 0) || (running_count > 0 && running[0] != 0),
+        [11] = done >= 64,
+    };
+    return first(plain_cycle_tests, fires);
 }
 
 uint32_t plain_prime_number(uint32_t index)

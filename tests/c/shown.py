@@ -1,10 +1,11 @@
-"""The page on the C interface shows the example as it is compiled.
+"""The page on the C interface shows the examples as they are compiled.
 
-Usage: shown.py PAGE FILE
+Usage: shown.py PAGE FILE...
 """
 
 import sys
 
-page, file = (open(name, encoding="utf-8").read() for name in sys.argv[1:])
-if f"```c\n{file}```\n" not in page:
-    sys.exit(f"{sys.argv[1]} does not show {sys.argv[2]} as it is")
+page, *files = (open(name, encoding="utf-8").read() for name in sys.argv[1:])
+for name, file in zip(sys.argv[2:], files):
+    if f"```c\n{file}```\n" not in page:
+        sys.exit(f"{sys.argv[1]} does not show {name} as it is")

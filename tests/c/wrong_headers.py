@@ -1,7 +1,7 @@
 """Wrong headers, which the tests of the header must refuse.
 
-Each is the header with one edit; every constant, macro and struct of it is edited. tests/c/header.c is built with the edited header and must
-name what was edited; with the header as it is it names nothing.
+Each is the header with one edit; every constant, macro and struct of it is edited, and the function that it defines. tests/c/header.c is
+built with the edited header and must name what was edited; with the header as it is it names nothing.
 
 Usage: wrong_headers.py ARCHIVE
 """
@@ -34,6 +34,17 @@ MACROS = {
         "(128 * (size_t)n + 8 * (size_t)m)",
         "128 * (size_t)(n) + 8 * (size_t)(m)",
     ],
+    "CYCLE_WORK_PLACES(n, m)": [
+        "(144 * (size_t)(n) + 8 * (size_t)(m))",
+        "(128 * (size_t)(n) + 8 * (size_t)(m))",
+        "(145 * (size_t)(n) + 8 * (size_t)(m))",
+        "(144 * (size_t)(n) + 7 * (size_t)(m))",
+        "(144 * (size_t)(m) + 8 * (size_t)(n))",
+        "(144 * (size_t)(n) + 8 * (size_t)(m) + 1)",
+        "(144 * (n) + 8 * (m))",
+        "(144 * (size_t)n + 8 * (size_t)m)",
+        "144 * (size_t)(n) + 8 * (size_t)(m)",
+    ],
     "TEXT_BYTES(n)": [
         "(29 + 11 * (size_t)(n))",
         "(28 + 11 * (size_t)(n))",
@@ -47,10 +58,34 @@ MACROS = {
     ],
 }
 FIELDS = {
-    "answer": ("uint32_t number;", "uint64_t weight;"),
-    "prime_answer": ("uint32_t number;", "uint32_t prime;"),
-    "text_answer": ("uint32_t number;", "size_t count;"),
+    "answer": ["uint32_t number", "uint64_t weight"],
+    "chain": ["uint32_t modulus", "size_t order", "uint32_t done"],
+    "open_answer": ["uint32_t number", "uint64_t weight", "ruhitapo_chain chain"],
+    "cycle_answer": ["uint32_t number", "uint64_t weight", "ruhitapo_chain chain"],
+    "prime_answer": ["uint32_t number", "uint32_t prime"],
+    "text_answer": ["uint32_t number", "size_t count"],
 }
+# each type, and then wrong ones: of another size, with a sign
+TYPES = {
+    "uint32_t": ["uint16_t", "int32_t"],
+    "uint64_t": ["uint16_t", "int64_t"],
+    "size_t": ["uint16_t", "int64_t"],
+    "ruhitapo_chain": ["uint64_t"],
+}
+# parts of what the function passes on, and then wrong
+PASSED = [
+    ("chain.modulus, chain.order, chain.done,", "chain.done, chain.order, chain.modulus,"),
+    ("chain.modulus, chain.order, chain.done,", "chain.modulus, chain.order, 0,"),
+    ("chain.modulus, chain.order, chain.done,", "chain.modulus, running_count, chain.done,"),
+    ("chain.modulus, chain.order, chain.done,", "7, chain.order, chain.done,"),
+    ("chain.done, route,", "route, chain.done,"),
+    ("chain.done, route,", "chain.done, 1,"),
+    ("route, list, list_count,", "route, list, list_count / 2,"),
+    ("route, list, list_count,", "route, running, list_count,"),
+    ("running, running_count,", "running, chain.order,"),
+    ("work, work_count);", "work, RUHITAPO_CYCLE_WORK_PLACES(chain.order, list_count));"),
+    ("running, running_count,\n                                  work, work_count);", "work, work_count, running, running_count);"),
+]
 
 
 def once(text, old, new):
@@ -84,16 +119,29 @@ def wrong_macros(text):
 
 
 def wrong_structs(text):
-    """The fields in the other order, and fields of another type."""
+    """Each two neighbours exchanged, and each field of another type."""
     if re.findall(r"^typedef struct ruhitapo_(\w+)", text, re.MULTILINE) != list(FIELDS):
         sys.exit("the header has other structs")
-    for name, (first, second) in FIELDS.items():
-        struct = f"{{\n    {first}\n    {second}\n}} ruhitapo_{name};"
-        wrongs = [(second, first), (first.replace("uint32", "int32"), second)]
-        wrongs += [(first, f"{wrong} {second.split()[1]}") for wrong in ("uint16_t", "int64_t", "int32_t")]
-        for first_field, second_field in wrongs:
-            edited = f"{{\n    {first_field}\n    {second_field}\n}} ruhitapo_{name};"
-            yield (f"ruhitapo_{name}",), once(text, struct, edited)
+    for name, fields in FIELDS.items():
+        wrongs = [[*fields[:at], fields[at + 1], fields[at], *fields[at + 2 :]] for at in range(len(fields) - 1)]
+        for at, field in enumerate(fields):
+            kind, field_name = field.split()
+            wrongs += [[*fields[:at], f"{wrong} {field_name}", *fields[at + 1 :]] for wrong in TYPES[kind]]
+        for wrong in wrongs:
+            yield (f"ruhitapo_{name}",), once(text, struct(name, fields), struct(name, wrong))
+
+
+def struct(name, fields):
+    return "{\n" + "".join(f"    {field};\n" for field in fields) + f"}} ruhitapo_{name};"
+
+
+def wrong_functions(text):
+    if re.findall(r"^static inline \w+ (\w+)", text, re.MULTILINE) != ["ruhitapo_cycle"]:
+        sys.exit("the header defines other functions")
+    for part, wrong in PASSED:
+        yield ("ruhitapo_cycle",), once(text, part, wrong)
+    call = re.search(r"return (ruhitapo_cycle_numbers\(.*?\);)", text, re.DOTALL).group(1)
+    yield ("ruhitapo_cycle",), once(text, f"return {call}", f"ruhitapo_cycle_answer answer = {call} answer.chain = chain; return answer;")
 
 
 def wrong_headers(text):
@@ -101,6 +149,7 @@ def wrong_headers(text):
     yield from wrong_limits(text)
     yield from wrong_macros(text)
     yield from wrong_structs(text)
+    yield from wrong_functions(text)
 
 
 def compiled(source, include, target):

@@ -2,8 +2,8 @@
 //! where the table begins and ends.
 
 use crate::plain::random::Random;
-use crate::plain::{primes, refusals, render, weights};
-use crate::rows::PRIMES;
+use crate::plain::{chain::Chain, primes, refusals, render, weights};
+use crate::rows::{record, PRIMES};
 use crate::written::Law;
 
 pub fn all(random: &mut Random) -> Vec<Law> {
@@ -31,11 +31,12 @@ fn long_list(random: &mut Random, count: usize) -> Vec<String> {
     let inner = refusals::compose(route, p, 1, &[], &long, 1, work);
     let series = refusals::reverse(p, 1, &long, 1, work);
     let cycle = refusals::cycle(route, p, 1, 0, &long, &[0], work);
+    let chain = record(Chain { modulus: p, order: 1, done: 0 });
     vec![
         format!("composeRefusal {route} {p} 1 {shown} [] 1 {work} ≡ {outer}"),
         format!("composeRefusal {route} {p} 1 [] {shown} 1 {work} ≡ {inner}"),
         format!("reverseRefusal {p} 1 {shown} 1 {work} ≡ {series}"),
-        format!("cycleRefusal {route} {p} 1 0 {shown} (0 ∷ []) {work} ≡ {cycle}"),
+        format!("cycleRefusal {route} {chain} {shown} (0 ∷ []) {work} ≡ {cycle}"),
     ]
 }
 
@@ -48,12 +49,13 @@ fn order(random: &mut Random, n: u64) -> Vec<String> {
     let compose = refusals::compose(route, p, n, &[], &[], places, work);
     let reverse = refusals::reverse(p, n, &[0, 1], places, work);
     let cycle = refusals::cycle(route, p, n, 0, &[], &zeros, work);
+    let chain = record(Chain { modulus: p, order: n, done: 0 });
     let render = refusals::render(0, n, 0, &zeros, text);
     vec![
         format!("composeRefusal {route} {p} {n} [] [] {n} {work} ≡ {compose}"),
         format!("reverseRefusal {p} {n} (0 ∷ 1 ∷ []) {n} {work} ≡ {reverse}"),
         format!("openRefusal {p} {n} {n} ≡ {}", refusals::open(p, n, places)),
-        format!("cycleRefusal {route} {p} {n} 0 [] (replicate {n} 0) {work} ≡ {cycle}"),
+        format!("cycleRefusal {route} {chain} [] (replicate {n} 0) {work} ≡ {cycle}"),
         format!("renderRefusal 0 {n} {n} {text} {text} ≡ {render}"),
     ]
 }

@@ -4,7 +4,7 @@
 use crate::files;
 use crate::plain::random::Random;
 use crate::plain::{calls, chain::Chain, job, refusals, render};
-use crate::rows::{list, PRIMES};
+use crate::rows::{list, record, PRIMES};
 use crate::written::Law;
 
 pub fn all(random: &mut Random) -> Vec<Law> {
@@ -50,11 +50,10 @@ fn opening(random: &mut Random, fault: u64) -> Law {
     let before = random.buffer((n + u64::from(fault == 3)) as usize);
     let mut series = before.clone();
     let (chain, answer) = Chain::open(p, n, &mut series);
-    let after = format!("{} {} {}", chain.modulus, chain.order, chain.done);
-    let buffers = format!("{} {}", list(&before), list(&series));
+    let (buffers, after) = (format!("{} {}", list(&before), list(&series)), record(chain));
     Law::promised(
         format!("Open {p} {n} {buffers} {} {} {after}", answer.number, answer.weight),
-        &["refusal", "weighs", "modulus", "order", "none-done", "running"],
+        &["refusal", "weighs", "records", "running"],
     )
 }
 
@@ -70,13 +69,10 @@ fn cycle(random: &mut Random, done: u64) -> Law {
     let chain = Chain { modulus, order: n as u64, done };
     let (after, answer) = chain.cycle(route, &c, &mut series, &mut work);
     let lists = [&c, &before, &series, &work_before, &work].map(|places| list(places)).join(" ");
-    let record = format!("{} {} {}", after.modulus, after.order, after.done);
+    let (before, after) = (record(chain), record(after));
     Law::promised(
-        format!(
-            "Cycle {route} {modulus} {n} {done} {lists} {} {} {record}",
-            answer.number, answer.weight
-        ),
-        &["refusal", "weighs", "modulus", "order", "counts", "running", "clears"],
+        format!("Cycle {route} {before} {lists} {} {} {after}", answer.number, answer.weight),
+        &["refusal", "weighs", "records", "running", "clears"],
     )
 }
 

@@ -13,6 +13,12 @@ pub fn list<T: std::fmt::Display>(places: &[T]) -> String {
     format!("({}[])", shown.concat())
 }
 
+/// A chain record as the definitions write it.
+pub fn record(chain: Chain) -> String {
+    let Chain { modulus, order, done } = chain;
+    format!("(record {{ modulus = {modulus}; order = {order}; done = {done} }})")
+}
+
 pub fn all(random: &mut Random) -> Vec<String> {
     let mut equations = Vec::new();
     for _ in 0..60 {
@@ -96,13 +102,14 @@ fn numbers(random: &mut Random) -> Vec<String> {
         .saturating_sub(random.below(5) / 4);
     let series = random.list(p + 1, places);
     let done = 62 + random.below(4);
-    let (shown, shown_inner) = (list(&f), list(&g));
+    let (shown, shown_inner, shown_series) = (list(&f), list(&g), list(&series));
+    let chain = record(Chain { modulus: p, order: n, done });
     let compose = refusals::compose(route, p, n, &f, &g, places, work as usize);
     let cycle = refusals::cycle(route, p, n, done, &f, &series, work as usize);
     let index = random.below(20);
     vec![
         format!("composeRefusal {route} {p} {n} {shown} {shown_inner} {places} {work} ≡ {compose}"),
-        format!("cycleRefusal {route} {p} {n} {done} {shown} {} {work} ≡ {cycle}", list(&series)),
+        format!("cycleRefusal {route} {chain} {shown} {shown_series} {work} ≡ {cycle}"),
         format!("openRefusal {p} {n} {places} ≡ {}", refusals::open(p, n, places)),
         format!("tableRefusal {index} ≡ {}", refusals::table(index)),
     ]
@@ -116,11 +123,8 @@ fn late(random: &mut Random) -> String {
     series[0] = u32::from(random.once_in(4));
     let (done, work) = (62 + random.below(4), refusals::cycle_work_places(n as u64, 2));
     let number = refusals::cycle(route, p, n as u64, done, &cycle, &series, work as usize);
-    format!(
-        "cycleRefusal {route} {p} {n} {done} {} {} {work} ≡ {number}",
-        list(&cycle),
-        list(&series)
-    )
+    let chain = record(Chain { modulus: p, order: n as u64, done });
+    format!("cycleRefusal {route} {chain} {} {} {work} ≡ {number}", list(&cycle), list(&series))
 }
 
 fn text(random: &mut Random) -> String {

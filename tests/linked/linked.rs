@@ -1,4 +1,4 @@
-//! The calls of the static libraries: those of the C interface, and opening and cycle of `trial`.
+//! The calls of the static library.
 
 use crate::checks::library::Library;
 use crate::plain::calls::Answer;
@@ -23,12 +23,18 @@ struct TextAnswer {
 }
 
 #[repr(C)]
-struct ChainAnswer {
+struct ChainRecord {
     modulus: u32,
     order: usize,
     done: u32,
+}
+
+/// The answer of an opening and of a cycle.
+#[repr(C)]
+struct ChainAnswer {
     number: u32,
     weight: u64,
+    chain: ChainRecord,
 }
 
 // A list passes as its pointer and its count.
@@ -70,9 +76,9 @@ extern "C" {
         text_count: usize,
     ) -> TextAnswer;
 
-    fn trial_open(p: u32, n: usize, running: *mut u32, running_count: usize) -> ChainAnswer;
+    fn ruhitapo_open(p: u32, n: usize, running: *mut u32, running_count: usize) -> ChainAnswer;
 
-    fn trial_cycle(
+    fn ruhitapo_cycle_numbers(
         modulus: u32,
         order: usize,
         done: u32,
@@ -86,7 +92,7 @@ extern "C" {
     ) -> ChainAnswer;
 }
 
-/// The linked libraries.
+/// The linked library.
 pub struct Linked;
 
 // SAFETY of each call: a list passes as its pointer and its count, and no two of them overlap.
@@ -118,7 +124,7 @@ impl Library for Linked {
 
     fn open(p: u64, n: u64, running: &mut [u32]) -> (Chain, Answer) {
         let (p, n, count) = (word(p), n as usize, running.len());
-        chain(unsafe { trial_open(p, n, running.as_mut_ptr(), count) })
+        chain(unsafe { ruhitapo_open(p, n, running.as_mut_ptr(), count) })
     }
 
     fn cycle(
@@ -133,7 +139,9 @@ impl Library for Linked {
         let (count, work_count) = (running.len(), work.len());
         let (running, work) = (running.as_mut_ptr(), work.as_mut_ptr());
         chain(unsafe {
-            trial_cycle(p, n, done, route, list, list_count, running, count, work, work_count)
+            ruhitapo_cycle_numbers(
+                p, n, done, route, list, list_count, running, count, work, work_count,
+            )
         })
     }
 
@@ -160,7 +168,7 @@ fn answer(found: CallAnswer) -> Answer {
 }
 
 fn chain(found: ChainAnswer) -> (Chain, Answer) {
-    let ChainAnswer { modulus, order, done, number, weight } = found;
+    let ChainRecord { modulus, order, done } = found.chain;
     let record = Chain { modulus: modulus.into(), order: order as u64, done: done.into() };
-    (record, Answer { number, weight })
+    (record, Answer { number: found.number, weight: found.weight })
 }

@@ -22,7 +22,7 @@ CRATES = pathlib.Path("crates")
 TESTS = pathlib.Path("tests")
 NAME = r"[^\s`,:;|(){}]+"
 GROUPED = ["second", "linked"]
-KNOWN = [*GROUPED, "equations", "c-interface", "joiner", "job-tool"]
+KNOWN = [*GROUPED, "equations", "c-interface", "installed", "joiner", "job-tool"]
 
 
 def declared(files):

@@ -1,4 +1,4 @@
-"""What the tests reach: the definitions that the equations compute, and the functions that the linked libraries and the job program call. A name
+"""What the tests reach: the definitions that the equations compute, and the functions that the linked library and the job program call. A name
 counts as reached if it is used there or by something that is; this finds a row that names a test of something else, and no more.
 
   read              reads the crates of equations in a folder

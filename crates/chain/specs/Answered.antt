@@ -16,9 +16,9 @@ use Rattle.algebra.specs.Lists.{length-tabulate, tabulate-cong}
 use Rattle.buffer.specs.Written.{sets-whole}
 use Rattle.definition.specs.Answer.{cleared}
 use Rattle.definition.specs.Calls.{Cycle, Open}
-use Rattle.definition.specs.Chain.{counted}
+use Rattle.definition.specs.Chain.{Chain, nextChain, openedChain}
 use Rattle.definition.specs.Lists.{coefficient, tabulate}
-use Rattle.definition.specs.Refusal.{composeWork, cycleRefusal, cycleWork, openRefusal}
+use Rattle.definition.specs.Refusal.{cycleRefusal, cycleWork, openRefusal}
 use Rattle.definition.specs.Reversion.{identity, identityAt}
 use Rattle.definition.specs.Substitution.{constant}
 use Rattle.definition.specs.Weight.{weight}
@@ -38,63 +38,60 @@ identity-written s =
     sets-whole s (tabulate (length s) (coefficient (0 ∷ 1 ∷ []))) (length-tabulate (length s) _)
     ∙ tabulate-cong (length s) (coefficient (0 ∷ 1 ∷ [])) identityAt (λ k b. coefficient-identity k)
 
+opened-refused : (number p n : ℕ) → number ≢ 0 → openedChain number p n ≡ record { modulus = 0; order = 0; done = 0 }
+unfolding openedChain
+opened-refused zero p n refused = absurd (refused refl)
+opened-refused (suc number) p n refused = refl
+
 module _ {p n : ℕ} (s : List ℕ) {number : ℕ} (tested : number ≡ openRefusal p n (length s)) where
-  pub open-refused : number ≢ 0 → Open p n s s number 0 0 0 0
+  pub open-refused : number ≢ 0 → Open p n s s number 0 (record { modulus = 0; order = 0; done = 0 })
   open-refused refused = record {
     refusal = tested;
     weighs = refl;
-    modulus = sym (answered-refused number p refused);
-    order = sym (answered-refused number n refused);
-    none-done = refl;
+    records = sym (opened-refused number p n refused);
     running = sym (kept-refused number (identity n) s refused);
   }
 
-  pub open-accepted : {s′ : List ℕ} → number ≡ 0 → length s ≡ n → s′ ≡ identity (length s) → Open p n s s′ 0 0 p n 0
+  pub open-accepted : {s′ : List ℕ} → number ≡ 0 → length s ≡ n → s′ ≡ identity (length s)
+      → Open p n s s′ 0 0 (record { modulus = p; order = n; done = 0 })
+  unfolding openedChain
   open-accepted accepted size written = record {
     refusal = sym accepted ∙ tested;
     weighs = refl;
-    modulus = sym (answered-accepted p refl);
-    order = sym (answered-accepted n refl);
-    none-done = refl;
+    records = refl;
     running = written ∙ ap identity size ∙ sym (kept-accepted (identity n) s refl);
   }
 
--- a cycle asks for more work than compose
-work-within : (n m : ℕ) → composeWork n m ≤ cycleWork n m
-work-within n m = omega arith
+pub bounds-lent : {route work : ℕ} {chain : Chain} {c s : List ℕ} → CycleBounds route chain c s work
+    → Lent (chain .modulus) (chain .order) (length c) work
+bounds-lent b = field-lent (b .field) (b .outer) (omega (arith, b .enough))
 
-pub bounds-lent : {route p n done work : ℕ} {c s : List ℕ} → CycleBounds route p n done c s work → Lent p n (length c) work
-bounds-lent {n = n} {c = c} b = field-lent (b .field) (b .outer) (omega (arith, work-within n (length c), b .enough))
+next-refused : (number : ℕ) (chain : Chain) → number ≢ 0 → nextChain number chain ≡ chain
+unfolding nextChain
+next-refused zero chain refused = absurd (refused refl)
+next-refused (suc number) chain refused = refl
 
-counted-refused : (number done : ℕ) → number ≢ 0 → done ≡ counted number done
-unfolding counted
-counted-refused zero done refused = absurd (refused refl)
-counted-refused (suc number) done refused = refl
-
-module _ {route p n done : ℕ} (c s work : List ℕ) {number : ℕ} (tested : number ≡ cycleRefusal route p n done c s (length work)) where
-  pub cycle-refused : number ≢ 0 → Cycle route p n done c s s work work number 0 p n done
+module _ {route : ℕ} {chain : Chain} (c s work : List ℕ) {number : ℕ} (tested : number ≡ cycleRefusal route chain c s (length work)) where
+  pub cycle-refused : number ≢ 0 → Cycle route chain c s s work work number 0 chain
   cycle-refused refused = record {
     refusal = tested;
     weighs = sym (answered-refused number _ refused);
-    modulus = refl;
-    order = refl;
-    counts = counted-refused number done refused;
+    records = sym (next-refused number chain refused);
     running = sym (kept-refused number _ s refused);
     clears = sym (kept-refused number _ work refused);
   }
 
-  pub cycle-accepted : {s′ then work′ : List ℕ} {places result : ℕ} → number ≡ 0 → length s ≡ n
-      → Route p n c s (weight route p n (length c)) work then result
-      → places ≡ cycleWork n (length c) → Finished places then work′ s s′ → Cycle route p n done c s s′ work work′ 0 result p n (done + 1)
-  unfolding counted
+  pub cycle-accepted : {s′ then work′ : List ℕ} {places result : ℕ} → number ≡ 0 → length s ≡ chain .order
+      → Route (chain .modulus) (chain .order) c s (weight route (chain .modulus) (chain .order) (length c)) work then result
+      → places ≡ cycleWork (chain .order) (length c) → Finished places then work′ s s′
+      → Cycle route chain c s s′ work work′ 0 result (record { modulus = chain .modulus; order = chain .order; done = chain .done + 1 })
+  unfolding nextChain
   cycle-accepted accepted size run counts finish =
-      let finished = route-finished run (rw counts (work-within n (length c))) size finish in
+      let finished = route-finished run (omega (arith, counts)) size finish in
       record {
         refusal = sym accepted ∙ tested;
         weighs = run .sum ∙ sym (answered-accepted _ refl);
-        modulus = refl;
-        order = refl;
-        counts = omega arith;
+        records = refl;
         running = finished .0 ∙ sym (kept-accepted _ s refl);
         clears = finished .1 ∙ ap (λ k. cleared k work) counts ∙ sym (kept-accepted _ work refl);
       }

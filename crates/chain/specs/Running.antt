@@ -22,9 +22,9 @@ use Rattle.algebra.specs.Lists.{coefficient-tabulate, length-tabulate, sum-zero
 use Rattle.algebra.specs.Residue.{residues, reduction}
 use Rattle.algebra.specs.Series.{indeterminate}
 use Rattle.algebra.specs.Substitution.{substitute-agree, substitute-coefficients, substitute-indeterminate}
-use Rattle.definition.specs.Chain.{after, running}
 use Rattle.definition.specs.Lists.{coefficient, sum, tabulate}
 use Rattle.definition.specs.Reversion.{identity, identityAt}
+use Rattle.definition.specs.Running.{after, running}
 use Rattle.definition.specs.Substitution.{
   composed,
   composedAt,

@@ -2,11 +2,11 @@
 -- left. p is the modulus and n the order that the chain was opened with; a name with a prime (′) is a value after a call. Assumes nothing.
 --
 --   acceptedAfter number c cs        the cycles accepted after a cycle c that returned this number, first cycle first
---   Sequence p n p′ n′ done s cs     calls that left the record (p′, n′, done) and the running series s, and accepted the cycles cs
---   ChainOf p n p′ n′ done s cs      this record and this running series are those of the cycles cs
+--   Sequence p n chain s cs          calls that left this record and the running series s, and accepted the cycles cs
+--   ChainOf p n chain s cs           this record and this running series are those of the cycles cs
 --   sequence-running                 so it is after every sequence
 --   sequence-constant-free           no cycle that was accepted has a constant term
-use Prim.Native.Nat.{ℕ, zero, suc, _<_, _≤_}
+use Prim.Native.Nat.{ℕ, zero, suc, _≤_}
 use mathlib.Core.List.{
   List,
   List·Memᴰ,
@@ -23,12 +23,13 @@ use lib.ListN.{length, length-append}
 use native.Mathlib.Omega.{arith}
 use Rattle.algebra.specs.Composition.{length-composed}
 use Rattle.chain.specs.Running.{ConstantFree, after-++, identity-places}
-use Rattle.definition.specs.Answer.{answered, kept}
+use Rattle.definition.specs.Answer.{kept}
 use Rattle.definition.specs.Calls.{Cycle, Open}
-use Rattle.definition.specs.Chain.{after, counted, running}
+use Rattle.definition.specs.Chain.{Chain, nextChain, openedChain}
 use Rattle.definition.specs.Lists.{coefficient}
 use Rattle.definition.specs.Refusal.{mostCycles}
 use Rattle.definition.specs.Reversion.{identity}
+use Rattle.definition.specs.Running.{after, running}
 use Rattle.definition.specs.Substitution.{composed}
 use Rattle.refusal.specs.Bounds.{cycle-bounds}
 
@@ -36,81 +37,48 @@ unfoldable pub acceptedAfter : ℕ → List ℕ → List (List ℕ) → List (Li
 acceptedAfter zero c cs = cs ++ (c ∷ [])
 acceptedAfter (suc number) c cs = cs
 
-pub data Sequence (p n : ℕ) : ℕ → ℕ → ℕ → List ℕ → List (List ℕ) → Type 0 where
-  opened : {s s′ : List ℕ} {number weight p′ n′ done′ : ℕ} → Open p n s s′ number weight p′ n′ done′ → number ≡ 0
-      → Sequence p n p′ n′ done′ s′ []
-  called : {p′ n′ done : ℕ} {s : List ℕ} {cs : List (List ℕ)} → Sequence p n p′ n′ done s cs
-      → {route number weight p″ n″ done″ : ℕ} {c s′ work work′ : List ℕ}
-      → Cycle route p′ n′ done c s s′ work work′ number weight p″ n″ done″
-      → Sequence p n p″ n″ done″ s′ (acceptedAfter number c cs)
+pub data Sequence (p n : ℕ) : Chain → List ℕ → List (List ℕ) → Type 0 where
+  opened : {s s′ : List ℕ} {number weight : ℕ} {chain : Chain} → Open p n s s′ number weight chain → number ≡ 0
+      → Sequence p n chain s′ []
+  called : {chain : Chain} {s : List ℕ} {cs : List (List ℕ)} → Sequence p n chain s cs
+      → {route number weight : ℕ} {chain′ : Chain} {c s′ work work′ : List ℕ}
+      → Cycle route chain c s s′ work work′ number weight chain′ → Sequence p n chain′ s′ (acceptedAfter number c cs)
 
-pub record ChainOf (p n p′ n′ done : ℕ) (s : List ℕ) (cs : List (List ℕ)) : Type 0 where
-  pub modulus : p′ ≡ p
-  pub order : n′ ≡ n
-  pub counts : done ≡ length cs
+pub record ChainOf (p n : ℕ) (chain : Chain) (s : List ℕ) (cs : List (List ℕ)) : Type 0 where
+  pub modulus : chain .modulus ≡ p
+  pub order : chain .order ≡ n
+  pub counts : chain .done ≡ length cs
   pub series : s ≡ running p n cs
   pub places : length s ≡ n
-  pub most : done ≤ mostCycles
+  pub most : chain .done ≤ mostCycles
 
-opened-chain : {p n : ℕ} {s s′ : List ℕ} {number weight p′ n′ done′ : ℕ} → Open p n s s′ number weight p′ n′ done′ → number ≡ 0
-    → ChainOf p n p′ n′ done′ s′ []
-unfolding answered kept running after
-opened-chain {n = n} o e =
-    let x : _≡_ {A = List ℕ} _ (identity n) = rw e at (o .running) in
-    record {
-      modulus = rw e at (o .modulus);
-      order = rw e at (o .order);
-      counts = o .none-done;
-      series = x;
-      places = ap length x ∙ identity-places n;
-      most = omega (arith, o .none-done);
-    }
+opened-chain : {p n weight : ℕ} {s s′ : List ℕ} {chain : Chain} → Open p n s s′ 0 weight chain → ChainOf p n chain s′ []
+unfolding openedChain kept running after
+opened-chain {n = n} o =
+    rw (o .records, o .running)
+    (record { modulus = refl; order = refl; counts = refl; series = refl; places = identity-places n; most = omega arith })
 
-counted-accepted : (number done : ℕ) (c : List ℕ) (cs : List (List ℕ)) → done ≡ length cs
-    → counted number done ≡ length (acceptedAfter number c cs)
-unfolding counted acceptedAfter
-counted-accepted zero done c cs e = omega (arith, length-append cs (c ∷ []))
-counted-accepted (suc number) done c cs e = e
+-- an accepted cycle is one more; a refused one leaves all as it was
+called-chain : {p n : ℕ} {chain : Chain} {s : List ℕ} {cs : List (List ℕ)} → ChainOf p n chain s cs
+    → {route : ℕ} (number : ℕ) {weight : ℕ} {chain′ : Chain} {c s′ work work′ : List ℕ}
+    → Cycle route chain c s s′ work work′ number weight chain′ → ChainOf p n chain′ s′ (acceptedAfter number c cs)
+unfolding nextChain kept acceptedAfter running after
+called-chain {p} {n} {chain} {s} {cs} r {route} zero {c = c} {work = work} q =
+    let series : _≡_ {A = List ℕ} _ (composed p n c (running p n cs)) = rw (r .modulus, r .order, r .series) at (q .running) in
+    rw (q .records)
+    (record {
+      modulus = r .modulus;
+      order = r .order;
+      counts = omega (arith, r .counts, length-append cs (c ∷ []));
+      series = series ∙ sym (after-++ p n (identity n) cs (c ∷ []));
+      places = ap length series ∙ length-composed p n c _;
+      most = omega (arith, cycle-bounds route chain c s (length work) (sym (q .refusal)) .not-full);
+    })
+called-chain r (suc number) q = rw (q .records, q .running) r
 
-running-accepted : (p n number : ℕ) (c : List ℕ) (cs : List (List ℕ))
-    → kept number (composed p n c (running p n cs)) (running p n cs) ≡ running p n (acceptedAfter number c cs)
-unfolding kept acceptedAfter running after
-running-accepted p n zero c cs = sym (after-++ p n (identity n) cs (c ∷ []))
-running-accepted p n (suc number) c cs = refl
-
-kept-places : (p n number : ℕ) (c s : List ℕ) → length s ≡ n → length (kept number (composed p n c s) s) ≡ n
-unfolding kept
-kept-places p n zero c s e = length-composed p n c s
-kept-places p n (suc number) c s e = e
-
--- number 0 comes only where fewer cycles than the most are done
-counted-most : (number done : ℕ) → done ≤ mostCycles → (number ≡ 0 → done < mostCycles) → counted number done ≤ mostCycles
-unfolding counted
-counted-most zero done l h = h refl
-counted-most (suc number) done l h = l
-
-called-chain : {p n p′ n′ done : ℕ} {s : List ℕ} {cs : List (List ℕ)} → ChainOf p n p′ n′ done s cs
-    → {route number weight p″ n″ done″ : ℕ} {c s′ work work′ : List ℕ}
-    → Cycle route p′ n′ done c s s′ work work′ number weight p″ n″ done″
-    → ChainOf p n p″ n″ done″ s′ (acceptedAfter number c cs)
-called-chain {p} {n} {p′} {n′} {done} {s} {cs} r {route} {number} {c = c} {work = work} q =
-    let step = rw (r .modulus, r .order) at (q .running) in
-    record {
-      modulus = q .modulus ∙ r .modulus;
-      order = q .order ∙ r .order;
-      counts = q .counts ∙ counted-accepted number done c cs (r .counts);
-      series = (rw (r .series) at step) ∙ running-accepted p n number c cs;
-      places = ap length step ∙ kept-places p n number c s (r .places);
-      most =
-          rw (q .counts)
-          (counted-most number done (r .most)
-          (λ e. cycle-bounds route p′ n′ done c s (length work) (sym (q .refusal) ∙ e) .not-full));
-    }
-
-pub sequence-running : {p n p′ n′ done : ℕ} {s : List ℕ} {cs : List (List ℕ)} → Sequence p n p′ n′ done s cs
-    → ChainOf p n p′ n′ done s cs
-sequence-running (opened o e) = opened-chain o e
-sequence-running (called q c) = called-chain (sequence-running q) c
+pub sequence-running : {p n : ℕ} {chain : Chain} {s : List ℕ} {cs : List (List ℕ)} → Sequence p n chain s cs → ChainOf p n chain s cs
+sequence-running (opened o e) = opened-chain (rw e at o)
+sequence-running (called before {number = number} q) = called-chain (sequence-running before) number q
 
 accepted-free : (number : ℕ) (c : List ℕ) (cs : List (List ℕ)) → ConstantFree cs → (number ≡ 0 → coefficient c 0 ≡ 0)
     → ConstantFree (acceptedAfter number c cs)
@@ -122,8 +90,8 @@ accepted-free zero c cs h z d m = go (List·Memᴰ·append-cases cs m)
     go (inr m) = rw (List·Memᴰ·eq-of-singleton m) (z refl)
 accepted-free (suc number) c cs h z d m = h d m
 
-pub sequence-constant-free : {p n p′ n′ done : ℕ} {s : List ℕ} {cs : List (List ℕ)} → Sequence p n p′ n′ done s cs → ConstantFree cs
+pub sequence-constant-free : {p n : ℕ} {chain : Chain} {s : List ℕ} {cs : List (List ℕ)} → Sequence p n chain s cs → ConstantFree cs
 sequence-constant-free (opened o e) = λ c m. absurd (List·Memᴰ·not-nil m)
-sequence-constant-free (called {p′} {n′} {done} {s} {cs} before {route} {number} {c = c} {work = work} q) =
+sequence-constant-free (called {chain} {s} {cs} before {route} {number} {c = c} {work = work} q) =
     accepted-free number c cs (sequence-constant-free before)
-    (λ e. cycle-bounds route p′ n′ done c s (length work) (sym (q .refusal) ∙ e) .constant-free)
+    (λ e. cycle-bounds route chain c s (length work) (sym (q .refusal) ∙ e) .constant-free)

@@ -1,22 +1,34 @@
 // Chains of cycles: a record of modulus, order and cycles done, by value, and the calls that open it and carry out a cycle. The running
 // series stands in a buffer that the caller lends.
-use refusal::Answer;
+use product::Weight;
 ghost use mathlib.Core.Path.{_≡_};
 ghost use lib.ListN.{length};
+ghost use Rattle.chain.specs.Record.{recorded};
 ghost use Rattle.definition.specs.Calls.{Cycle, Open};
 ghost use Rattle.definition.specs.Reversion.{identity};
 
 // A chain record.
+#[repr(C)]
 pub struct Chain {
     pub modulus: u32,
     pub order: usize,
     pub done: u32,
 }
 
-// The record that a call leaves, with its answer.
-pub struct Next {
+// What an opening answers, with the record that it leaves.
+#[repr(C)]
+pub struct Opened {
+    pub number: u32,
+    pub weight: u64,
     pub chain: Chain,
-    pub answer: Answer,
+}
+
+// What a cycle answers, with the record that it leaves.
+#[repr(C)]
+pub struct Cycled {
+    pub number: u32,
+    pub weight: u64,
+    pub chain: Chain,
 }
 
 // The whole buffer becomes x modulo x^n, n being its count.
@@ -29,9 +41,9 @@ fn put_identity(s: &mut [u32])
 
 impl Chain {
     // Opens a chain: the running series becomes x modulo x^n.
-    pub fn open(modulus: u32, order: usize, running: &mut [u32]) -> Next
-        ensures { λ r. ⌜ Open modulus order (now (running .entry)) (now (running .exit)) (r .answer .number) (r .answer .weight)
-            (r .chain .modulus) (r .chain .order) (r .chain .done) ⌝ }
+    pub fn open(modulus: u32, order: usize, running: &mut [u32]) -> Opened
+        ensures { λ r. ⌜ Open modulus order (now (running .entry)) (now (running .exit))
+            (r .number) (r .weight) (recorded (r .chain)) ⌝ }
     {
         let number = refusal::open(modulus, order, running.len());
         if number != 0 {
@@ -40,13 +52,10 @@ impl Chain {
                 order: 0,
                 done: 0,
             };
-            let refused = Answer {
+            return Opened {
                 number: number,
                 weight: 0,
-            };
-            return Next {
                 chain: none,
-                answer: refused,
             };
         }
         put_identity(running);
@@ -55,46 +64,43 @@ impl Chain {
             order: order,
             done: 0,
         };
-        let answer = Answer {
+        Opened {
             number: 0,
             weight: 0,
-        };
-        Next {
             chain: chain,
-            answer: answer,
         }
     }
 
     // A cycle: the running series S becomes C(S) modulo x^n by the route named, C being the list.
-    pub fn cycle(mut self, route: u32, list: &[u32], running: &mut [u32], work: &mut [u32]) -> Next
-        ensures { λ r. ⌜ Cycle route (self .modulus) (self .order) (self .done) (now (list .entry))
-            (now (running .entry)) (now (running .exit)) (now (work .entry)) (now (work .exit))
-            (r .answer .number) (r .answer .weight) (r .chain .modulus) (r .chain .order) (r .chain .done) ⌝ }
+    pub fn cycle(
+        mut self,
+        route: u32,
+        list: &[u32],
+        running: &mut [u32],
+        work: &mut [u32],
+    ) -> Cycled
+        ensures { λ r. ⌜ Cycle route (recorded self) (now (list .entry)) (now (running .entry)) (now (running .exit))
+            (now (work .entry)) (now (work .exit)) (r .number) (r .weight) (recorded (r .chain)) ⌝ }
     {
         let p = self.modulus;
         let n = self.order;
         let number = refusal::cycle(route, p, n, self.done, list, running, work.len());
         if number != 0 {
-            let refused = Answer {
+            return Cycled {
                 number: number,
                 weight: 0,
-            };
-            return Next {
                 chain: self,
-                answer: refused,
             };
         }
-        let weight = compose::run(route, p, n, list, running, work).value();
+        let products: Weight = compose::run(route, p, n, list, running, work);
+        let weight = products.value();
         let places = refusal::cycle_places(n, list.len());
         route::finish(work, running, places);
         self.done += 1;
-        let answer = Answer {
+        Cycled {
             number: 0,
             weight: weight,
-        };
-        Next {
             chain: self,
-            answer: answer,
         }
     }
 }

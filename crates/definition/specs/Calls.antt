@@ -1,10 +1,10 @@
 -- What each call promises, for every input: the number that it returns, what it returns beside it, and what each buffer lent to it holds
--- afterwards. A name with a prime (′) is a value after the call. p is the modulus, n the order, `done` the count of cycles done.
+-- afterwards. A name with a prime (′) is a value after the call. p is the modulus, n the order.
 --
 --   Compose   compose: the outer list f, the inner list g, the output, the work buffer
 --   Reverse   reverse: the series g, the output, the work buffer
 --   Open      the opening of a chain, with the running buffer s
---   Cycle     a cycle of a chain, by its record (p, n, done), the cycle list c, the running buffer s, the work buffer
+--   Cycle     a cycle of a chain, by its record, the cycle list c, the running buffer s, the work buffer
 --   Table     the table of primes
 --   Render    rendering of a refusal number, or of 0 with order, weight and coefficient list, into the text buffer
 --   Job       the job program's answer to a file, in a text buffer that holds every such answer
@@ -14,7 +14,7 @@ use mathlib.Core.Logic.{_≢_}
 use mathlib.Core.Path.{_≡_}
 use lib.ListN.{getD, length}
 use Rattle.definition.specs.Answer.{answered, cleared, kept, overwritten}
-use Rattle.definition.specs.Chain.{counted}
+use Rattle.definition.specs.Chain.{Chain, nextChain, openedChain}
 use Rattle.definition.specs.Job.{jobText}
 use Rattle.definition.specs.PrimeTable.{primeTable}
 use Rattle.definition.specs.Refusal.{
@@ -49,22 +49,18 @@ pub record Reverse (p n : ℕ) (g out out′ work work′ : List ℕ) (number we
   pub refused : number ≢ 0 → out′ ≡ out
   pub clears : work′ ≡ kept number (cleared (composeWork n (length g)) work) work
 
-pub record Open (p n : ℕ) (s s′ : List ℕ) (number weight′ p′ n′ done′ : ℕ) : Type 0 where
+pub record Open (p n : ℕ) (s s′ : List ℕ) (number weight′ : ℕ) (chain′ : Chain) : Type 0 where
   pub refusal : number ≡ openRefusal p n (length s)
   pub weighs : weight′ ≡ 0
-  pub modulus : p′ ≡ answered number p
-  pub order : n′ ≡ answered number n
-  pub none-done : done′ ≡ 0
+  pub records : chain′ ≡ openedChain number p n
   pub running : s′ ≡ kept number (identity n) s
 
-pub record Cycle (route p n done : ℕ) (c s s′ work work′ : List ℕ) (number weight′ p′ n′ done′ : ℕ) : Type 0 where
-  pub refusal : number ≡ cycleRefusal route p n done c s (length work)
-  pub weighs : weight′ ≡ answered number (weight route p n (length c))
-  pub modulus : p′ ≡ p
-  pub order : n′ ≡ n
-  pub counts : done′ ≡ counted number done
-  pub running : s′ ≡ kept number (composed p n c s) s
-  pub clears : work′ ≡ kept number (cleared (cycleWork n (length c)) work) work
+pub record Cycle (route : ℕ) (chain : Chain) (c s s′ work work′ : List ℕ) (number weight′ : ℕ) (chain′ : Chain) : Type 0 where
+  pub refusal : number ≡ cycleRefusal route chain c s (length work)
+  pub weighs : weight′ ≡ answered number (weight route (chain .modulus) (chain .order) (length c))
+  pub records : chain′ ≡ nextChain number chain
+  pub running : s′ ≡ kept number (composed (chain .modulus) (chain .order) c s) s
+  pub clears : work′ ≡ kept number (cleared (cycleWork (chain .order) (length c)) work) work
 
 pub record Table (index number prime : ℕ) : Type 0 where
   pub refusal : number ≡ tableRefusal index

@@ -1,21 +1,20 @@
--- Chains of cycles. A chain (01's term) is a modulus p, an order n, a count of cycles done and a running series s (01's term), which opening
--- sets to x modulo x^n. A cycle (01's term) with list c makes s into c(s) modulo x^n.
+-- The chain record (01's term). Each call of a chain leaves one, and the next call is given it.
 --
---   after p n s cs     the running series after the cycles cs, first cycle first, from the series s
---   running p n cs     the same from an opened chain, whose running series is x modulo x^n
---   counted number done   cycles done after a call that returned this number: one more where it is 0
-use Prim.Native.Nat.{ℕ, zero, suc}
-use mathlib.Core.List.{List, [], _∷_}
-use Rattle.definition.specs.Substitution.{composed}
-use Rattle.definition.specs.Reversion.{identity}
+--   Chain                   a record
+--   openedChain number p n  the record that an opening leaves: no cycle done; a refused one leaves zeros
+--   nextChain number chain  the record that a cycle leaves: one more cycle done; a refused one leaves the record as it was
+use Prim.Native.Nat.{ℕ, zero, suc, _+_}
 
-unfoldable pub after : ℕ → ℕ → List ℕ → List (List ℕ) → List ℕ
-after p n s [] = s
-after p n s (c ∷ cs) = after p n (composed p n c s) cs
+pub record Chain : Type 0 where
+  pub modulus : ℕ
+  pub order : ℕ
+  -- the count of cycles done
+  pub done : ℕ
 
-unfoldable pub running : ℕ → ℕ → List (List ℕ) → List ℕ
-running p n cs = after p n (identity n) cs
+unfoldable pub openedChain : ℕ → ℕ → ℕ → Chain
+openedChain zero p n = record { modulus = p; order = n; done = 0 }
+openedChain (suc number) p n = record { modulus = 0; order = 0; done = 0 }
 
-unfoldable pub counted : ℕ → ℕ → ℕ
-counted zero done = suc done
-counted (suc number) done = done
+unfoldable pub nextChain : ℕ → Chain → Chain
+nextChain zero chain = record { modulus = chain .modulus; order = chain .order; done = chain .done + 1 }
+nextChain (suc number) chain = chain

@@ -12,6 +12,7 @@ use mathlib.Core.List.{List}
 use mathlib.Core.Path.{_≡_, refl, sym, _∙_}
 use native.Mathlib.Omega.{arith}
 use Rattle.definition.specs.Calls.{Compose, Cycle, Job, Open, Render, Reverse, Table}
+use Rattle.definition.specs.Chain.{Chain}
 use Rattle.definition.specs.Lists.{coefficient}
 use Rattle.definition.specs.Refusal.{exceeds}
 use Rattle.definition.specs.Reversion.{identity}
@@ -51,41 +52,24 @@ pub reverse-none : {p n weight′ : ℕ} {g out out′ work work′ : List ℕ} 
 reverse-none a h places below no-constant reverses =
     a .none refl h (record { places = places; below = below; no-constant = no-constant; reverses = reverses })
 
-pub open-determined : {p n number₁ number₂ weight₁ weight₂ p₁ p₂ n₁ n₂ done₁ done₂ : ℕ} {s s₁ s₂ : List ℕ}
-    → Open p n s s₁ number₁ weight₁ p₁ n₁ done₁
-    → Open p n s s₂ number₂ weight₂ p₂ n₂ done₂
-    → (number₁ ≡ number₂) × ((weight₁ ≡ weight₂) × ((p₁ ≡ p₂) × ((n₁ ≡ n₂) × ((done₁ ≡ done₂) × (s₁ ≡ s₂)))))
+pub open-determined : {p n number₁ number₂ weight₁ weight₂ : ℕ} {s s₁ s₂ : List ℕ} {chain₁ chain₂ : Chain}
+    → Open p n s s₁ number₁ weight₁ chain₁
+    → Open p n s s₂ number₂ weight₂ chain₂
+    → (number₁ ≡ number₂) × ((weight₁ ≡ weight₂) × ((chain₁ ≡ chain₂) × (s₁ ≡ s₂)))
 open-determined a b =
-    let e = a .refusal ∙ sym (b .refusal) in (
-      e,
-      (
-        a .weighs ∙ sym (b .weighs),
-        (
-          a .modulus ∙ rw e (sym (b .modulus)),
-          (
-            a .order ∙ rw e (sym (b .order)),
-            (a .none-done ∙ sym (b .none-done), a .running ∙ rw e (sym (b .running))),
-          ),
-        ),
-      ),
-    )
+    let e = a .refusal ∙ sym (b .refusal) in
+    (e, (a .weighs ∙ sym (b .weighs), (a .records ∙ rw e (sym (b .records)), a .running ∙ rw e (sym (b .running)))))
 
-pub cycle-determined : {route p n done number₁ number₂ weight₁ weight₂ p₁ p₂ n₁ n₂ done₁ done₂ : ℕ} {c s s₁ s₂ work work₁ work₂ : List ℕ}
-    → Cycle route p n done c s s₁ work work₁ number₁ weight₁ p₁ n₁ done₁
-    → Cycle route p n done c s s₂ work work₂ number₂ weight₂ p₂ n₂ done₂
-    → (number₁ ≡ number₂) × ((weight₁ ≡ weight₂) × ((p₁ ≡ p₂) × ((n₁ ≡ n₂) × ((done₁ ≡ done₂) × ((s₁ ≡ s₂) × (work₁ ≡ work₂))))))
+pub cycle-determined : {route number₁ number₂ weight₁ weight₂ : ℕ} {chain chain₁ chain₂ : Chain} {c s s₁ s₂ work work₁ work₂ : List ℕ}
+    → Cycle route chain c s s₁ work work₁ number₁ weight₁ chain₁
+    → Cycle route chain c s s₂ work work₂ number₂ weight₂ chain₂
+    → (number₁ ≡ number₂) × ((weight₁ ≡ weight₂) × ((chain₁ ≡ chain₂) × ((s₁ ≡ s₂) × (work₁ ≡ work₂))))
 cycle-determined a b =
     let e = a .refusal ∙ sym (b .refusal) in (
       e,
       (
         a .weighs ∙ rw e (sym (b .weighs)),
-        (
-          a .modulus ∙ sym (b .modulus),
-          (
-            a .order ∙ sym (b .order),
-            (a .counts ∙ rw e (sym (b .counts)), (a .running ∙ rw e (sym (b .running)), a .clears ∙ rw e (sym (b .clears)))),
-          ),
-        ),
+        (a .records ∙ rw e (sym (b .records)), (a .running ∙ rw e (sym (b .running)), a .clears ∙ rw e (sym (b .clears)))),
       ),
     )
 

@@ -8,11 +8,12 @@
 --   Weight            the weight of each route
 --   Prime             prime, by divisors, and a Boolean test
 --   PrimeTable        the sixteen primes
+--   Chain             the chain record
 --   Refusal           the number that a call returns
 --   Answer            what a call leaves in the buffers lent to it
 --   Taylor            the coefficients in powers of (z - c) that decide whether two answers are equal
 --   Reversion         the reverse series
---   Chain             the running series after some cycles
+--   Running           the running series of a chain after some cycles
 --   Calls             what each call promises
 --   Text              decimal digits and the two printed forms
 --   Job               the job file
@@ -26,11 +27,12 @@ pub mod KinoshitaLi
 pub mod Weight
 pub mod Prime
 pub mod PrimeTable
+pub mod Chain
 pub mod Refusal
 pub mod Answer
 pub mod Taylor
 pub mod Reversion
-pub mod Chain
+pub mod Running
 pub mod Calls
 pub mod Text
 pub mod Job

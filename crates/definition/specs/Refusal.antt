@@ -11,6 +11,7 @@ use mathlib.Core.Bool.{Bool, false, cond, not, _&&_, _||_}
 use mathlib.Core.List.{List, [], _∷_}
 use lib.Dec.{leb, ltb, eqb}
 use lib.ListN.{length}
+use Rattle.definition.specs.Chain.{Chain}
 use Rattle.definition.specs.Lists.{coefficient}
 use Rattle.definition.specs.Prime.{isPrime, largestModulus}
 
@@ -104,19 +105,19 @@ reverseRefusal p n g places work =
 unfoldable pub openRefusal : ℕ → ℕ → ℕ → ℕ
 openRefusal p n places = first (test 2 (badModulus p) ∷ test 3 (badOrder n) ∷ test 6 (notPlaces n places) ∷ [])
 
--- a cycle c of a chain of modulus p and order n whose running series is s, with `done` cycles done
-unfoldable pub cycleRefusal : ℕ → ℕ → ℕ → ℕ → List ℕ → List ℕ → ℕ → ℕ
-cycleRefusal route p n done c s work =
+-- a cycle c of a chain whose running series is s
+unfoldable pub cycleRefusal : ℕ → Chain → List ℕ → List ℕ → ℕ → ℕ
+cycleRefusal route chain c s work =
     first
     (test 1 (badRoute route)
-    ∷ test 2 (badModulus p)
-    ∷ test 3 (badOrder n)
+    ∷ test 2 (badModulus (chain .modulus))
+    ∷ test 3 (badOrder (chain .order))
     ∷ test 5 (tooLong c)
-    ∷ test 6 (notPlaces n (length s))
-    ∷ test 7 (ltb work (cycleWork n (length c)))
-    ∷ test 8 (exceeds p c || exceeds p s)
+    ∷ test 6 (notPlaces (chain .order) (length s))
+    ∷ test 7 (ltb work (cycleWork (chain .order) (length c)))
+    ∷ test 8 (exceeds (chain .modulus) c || exceeds (chain .modulus) s)
     ∷ test 10 (hasConstant c || hasConstant s)
-    ∷ test 11 (leb mostCycles done)
+    ∷ test 11 (leb mostCycles (chain .done))
     ∷ [])
 
 unfoldable pub tableRefusal : ℕ → ℕ

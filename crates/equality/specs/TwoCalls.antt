@@ -15,6 +15,7 @@ use mathlib.Core.Path.{_≡_, sym, _∙_}
 use lib.ListN.{length}
 use Rattle.definition.specs.Answer.{kept}
 use Rattle.definition.specs.Calls.{Compose, Cycle}
+use Rattle.definition.specs.Chain.{Chain}
 use Rattle.definition.specs.Lists.{coefficient}
 use Rattle.definition.specs.Prime.{Prime}
 use Rattle.definition.specs.Refusal.{exceeds}
@@ -26,8 +27,8 @@ use Rattle.refusal.specs.Bounds.{compose-bounds, cycle-bounds}
 pub data Call : ℕ → ℕ → ℕ → List ℕ → List ℕ → List ℕ → Type 0 where
   compose : {route p n number weight : ℕ} {f g out out′ work work′ : List ℕ}
       → Compose route p n f g out out′ work work′ number weight → Call number p n f g out′
-  cycle : {route p n done number weight p′ n′ done′ : ℕ} {c s s′ work work′ : List ℕ}
-      → Cycle route p n done c s s′ work work′ number weight p′ n′ done′ → Call number p n c s s′
+  cycle : {route number weight : ℕ} {chain chain′ : Chain} {c s s′ work work′ : List ℕ}
+      → Cycle route chain c s s′ work work′ number weight chain′ → Call number (chain .modulus) (chain .order) c s s′
 
 pub record Answers (p n : ℕ) (f₁ g₁ out₁ f₂ g₂ out₂ : List ℕ) : Type 0 where
   pub first : out₁ ≡ composed p n f₁ g₁
@@ -55,8 +56,8 @@ unfolding kept
 accepted (compose {route} {p} {n} {f = f} {g = g} {out = out} {work = work} q) e =
     let b = compose-bounds route p n f g (length out) (length work) (sym (q .refusal) ∙ e) in
     record { prime = b .field .prime; positive = b .field .positive; small = b .below-inner; answer = rw e at (q .output) }
-accepted (cycle {route} {p} {n} {done} {c = c} {s = s} {work = work} q) e =
-    let b = cycle-bounds route p n done c s (length work) (sym (q .refusal) ∙ e) in
+accepted (cycle {route} {chain = chain} {c = c} {s = s} {work = work} q) e =
+    let b = cycle-bounds route chain c s (length work) (sym (q .refusal) ∙ e) in
     record { prime = b .field .prime; positive = b .field .positive; small = b .below-inner; answer = rw e at (q .running) }
 
 equal-answers : {p n : ℕ} {f₁ g₁ out₁ f₂ g₂ out₂ : List ℕ} → Accepted p n f₁ g₁ out₁ → Accepted p n f₂ g₂ out₂

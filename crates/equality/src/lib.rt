@@ -1,13 +1,14 @@
 // When two answers are equal (demand 3): two calls, each of compose or of a cycle, each with its own buffers, made one after the other,
 // and the claim about what they leave. The claim and its proof for any two calls stand in specs/TwoCalls.
 use chain::Chain;
-use chain::Next;
+use chain::Cycled;
 use refusal::Answer;
+ghost use Rattle.chain.specs.Record.{recorded};
 ghost use Rattle.definition.specs.Calls.{Compose, Cycle};
 ghost use Rattle.equality.specs.TwoCalls.{Equality};
 
 // The answers of two calls of compose.
-pub struct Composed {
+pub struct ComposedTwice {
     pub first: Answer,
     pub second: Answer,
 }
@@ -15,13 +16,13 @@ pub struct Composed {
 // The answers of a call of compose and of a cycle.
 pub struct ComposedAndCycled {
     pub first: Answer,
-    pub second: Next,
+    pub second: Cycled,
 }
 
 // The answers of two cycles.
-pub struct Cycled {
-    pub first: Next,
-    pub second: Next,
+pub struct CycledTwice {
+    pub first: Cycled,
+    pub second: Cycled,
 }
 
 // Two calls of compose.
@@ -40,7 +41,7 @@ pub fn compose_and_compose(
     g2: &[u32],
     out2: &mut [u32],
     work2: &mut [u32],
-) -> Composed
+) -> ComposedTwice
     ensures { λ r. ⌜ Compose route1 p1 n1 (now (f1 .entry)) (now (g1 .entry)) (now (out1 .entry)) (now (out1 .exit))
         (now (work1 .entry)) (now (work1 .exit)) (r .first .number) (r .first .weight) ⌝ }
     ensures { λ r. ⌜ Compose route2 p2 n2 (now (f2 .entry)) (now (g2 .entry)) (now (out2 .entry)) (now (out2 .exit))
@@ -50,7 +51,7 @@ pub fn compose_and_compose(
 {
     let first = compose::compose(route1, p1, n1, f1, g1, out1, work1);
     let second = compose::compose(route2, p2, n2, f2, g2, out2, work2);
-    Composed {
+    ComposedTwice {
         first: first,
         second: second,
     }
@@ -73,12 +74,10 @@ pub fn compose_and_cycle(
 ) -> ComposedAndCycled
     ensures { λ r. ⌜ Compose route1 p1 n1 (now (f1 .entry)) (now (g1 .entry)) (now (out1 .entry)) (now (out1 .exit))
         (now (work1 .entry)) (now (work1 .exit)) (r .first .number) (r .first .weight) ⌝ }
-    ensures { λ r. ⌜ Cycle route2 (chain2 .modulus) (chain2 .order) (chain2 .done) (now (list2 .entry))
-        (now (running2 .entry)) (now (running2 .exit)) (now (work2 .entry)) (now (work2 .exit))
-        (r .second .answer .number) (r .second .answer .weight)
-        (r .second .chain .modulus) (r .second .chain .order) (r .second .chain .done) ⌝ }
+    ensures { λ r. ⌜ Cycle route2 (recorded chain2) (now (list2 .entry)) (now (running2 .entry)) (now (running2 .exit))
+        (now (work2 .entry)) (now (work2 .exit)) (r .second .number) (r .second .weight) (recorded (r .second .chain)) ⌝ }
     ensures { λ r. ⌜ Equality (r .first .number) p1 n1 (now (f1 .entry)) (now (g1 .entry)) (now (out1 .exit))
-        (r .second .answer .number) (chain2 .modulus) (chain2 .order)
+        (r .second .number) (chain2 .modulus) (chain2 .order)
         (now (list2 .entry)) (now (running2 .entry)) (now (running2 .exit)) ⌝ }
 {
     let first = compose::compose(route1, p1, n1, f1, g1, out1, work1);
@@ -101,23 +100,19 @@ pub fn cycle_and_cycle(
     list2: &[u32],
     running2: &mut [u32],
     work2: &mut [u32],
-) -> Cycled
-    ensures { λ r. ⌜ Cycle route1 (chain1 .modulus) (chain1 .order) (chain1 .done) (now (list1 .entry))
-        (now (running1 .entry)) (now (running1 .exit)) (now (work1 .entry)) (now (work1 .exit))
-        (r .first .answer .number) (r .first .answer .weight)
-        (r .first .chain .modulus) (r .first .chain .order) (r .first .chain .done) ⌝ }
-    ensures { λ r. ⌜ Cycle route2 (chain2 .modulus) (chain2 .order) (chain2 .done) (now (list2 .entry))
-        (now (running2 .entry)) (now (running2 .exit)) (now (work2 .entry)) (now (work2 .exit))
-        (r .second .answer .number) (r .second .answer .weight)
-        (r .second .chain .modulus) (r .second .chain .order) (r .second .chain .done) ⌝ }
-    ensures { λ r. ⌜ Equality (r .first .answer .number) (chain1 .modulus) (chain1 .order)
+) -> CycledTwice
+    ensures { λ r. ⌜ Cycle route1 (recorded chain1) (now (list1 .entry)) (now (running1 .entry)) (now (running1 .exit))
+        (now (work1 .entry)) (now (work1 .exit)) (r .first .number) (r .first .weight) (recorded (r .first .chain)) ⌝ }
+    ensures { λ r. ⌜ Cycle route2 (recorded chain2) (now (list2 .entry)) (now (running2 .entry)) (now (running2 .exit))
+        (now (work2 .entry)) (now (work2 .exit)) (r .second .number) (r .second .weight) (recorded (r .second .chain)) ⌝ }
+    ensures { λ r. ⌜ Equality (r .first .number) (chain1 .modulus) (chain1 .order)
         (now (list1 .entry)) (now (running1 .entry)) (now (running1 .exit))
-        (r .second .answer .number) (chain2 .modulus) (chain2 .order)
+        (r .second .number) (chain2 .modulus) (chain2 .order)
         (now (list2 .entry)) (now (running2 .entry)) (now (running2 .exit)) ⌝ }
 {
     let first = chain1.cycle(route1, list1, running1, work1);
     let second = chain2.cycle(route2, list2, running2, work2);
-    Cycled {
+    CycledTwice {
         first: first,
         second: second,
     }

@@ -1,7 +1,7 @@
 -- What an accepted and a refused call leave.
 --
 --   kept-accepted kept-refused           a buffer
---   answered-accepted answered-refused   a weight, or a part of a chain record
+--   answered-accepted answered-refused   a weight
 -- Assumes nothing.
 use Prim.Native.Nat.{ℕ, zero, suc}
 use mathlib.Core.List.{List}

@@ -15,6 +15,7 @@ use mathlib.Core.Bool.{true, false}
 use mathlib.Core.List.{List}
 use mathlib.Core.Path.{_≡_, refl}
 use Rattle.algebra.specs.Prime.{prime-positive}
+use Rattle.definition.specs.Chain.{Chain}
 use Rattle.definition.specs.Lists.{coefficient}
 use Rattle.definition.specs.Prime.{Prime, largestModulus}
 use Rattle.definition.specs.Refusal.{badModulus, badOrder, composeRefusal, composeWork, cycleRefusal, cycleWork, exceeds, first, hasConstant, irreversible, limit, mostCycles, openRefusal, renderRefusal, reverseRefusal, test}
@@ -62,17 +63,17 @@ pub record OpenBounds (p n places : ℕ) : Type 0 where
   pub field : FieldBounds p n
   pub output : places ≡ n
 
-pub record CycleBounds (route p n done : ℕ) (c s : List ℕ) (work : ℕ) : Type 0 where
+pub record CycleBounds (route : ℕ) (chain : Chain) (c s : List ℕ) (work : ℕ) : Type 0 where
   pub named : (0 < route) × (route ≤ 4)
-  pub field : FieldBounds p n
+  pub field : FieldBounds (chain .modulus) (chain .order)
   pub outer : length c ≤ limit
-  pub running : length s ≡ n
-  pub enough : cycleWork n (length c) ≤ work
-  pub below-outer : exceeds p c ≡ false
-  pub below-inner : exceeds p s ≡ false
+  pub running : length s ≡ chain .order
+  pub enough : cycleWork (chain .order) (length c) ≤ work
+  pub below-outer : exceeds (chain .modulus) c ≡ false
+  pub below-inner : exceeds (chain .modulus) s ≡ false
   pub constant-free : coefficient c 0 ≡ 0
   pub running-constant-free : coefficient s 0 ≡ 0
-  pub not-full : done < mostCycles
+  pub not-full : chain .done < mostCycles
 
 field-bounds : {p n : ℕ} → badModulus p ≡ false → badOrder n ≡ false → FieldBounds p n
 field-bounds {p} {n} modulus order = record {
@@ -134,24 +135,24 @@ open-bounds p n places accepted =
     let (two, (three, (six, _))) = passed 3 _ accepted refl .0 in
     record { field = field-bounds two three; output = places-equal n places six }
 
-pub cycle-bounds : (route p n done : ℕ) (c s : List ℕ) (work : ℕ) → cycleRefusal route p n done c s work ≡ 0
-    → CycleBounds route p n done c s work
+pub cycle-bounds : (route : ℕ) (chain : Chain) (c s : List ℕ) (work : ℕ) → cycleRefusal route chain c s work ≡ 0
+    → CycleBounds route chain c s work
 unfolding cycleRefusal absent Passed test
-cycle-bounds route p n done c s work accepted =
+cycle-bounds route chain c s work accepted =
     let (one, (two, (three, (five, (six, (seven, (eight, (ten, (eleven, _))))))))) = passed 9 _ accepted refl .0 in
-    let below = either-false (exceeds p c) (exceeds p s) eight in
+    let below = either-false (exceeds (chain .modulus) c) (exceeds (chain .modulus) s) eight in
     let constants = either-false (hasConstant c) (hasConstant s) ten in
     record {
       named = route-within route one;
       field = field-bounds two three;
       outer = length-within c five;
-      running = places-equal n (length s) six;
+      running = places-equal (chain .order) (length s) six;
       enough = ltb-false work _ seven;
       below-outer = below .0;
       below-inner = below .1;
       constant-free = constant-zero c (constants .0);
       running-constant-free = constant-zero s (constants .1);
-      not-full = leb-false mostCycles done eleven;
+      not-full = leb-false mostCycles (chain .done) eleven;
     }
 
 pub list-passed : (number n places : ℕ) → first (listTests number n places) ≡ 0 → Passed (listTests number n places)

@@ -35,7 +35,7 @@ const CYCLE_WORK_PER_POWER: usize = 144;
 // The most cycles of a chain.
 const MOST_CYCLES: u32 = 64;
 
-// What compose, reverse and a cycle answer.
+// What compose and reverse answer.
 #[repr(C)]
 pub struct Answer {
     pub number: u32,
@@ -187,7 +187,7 @@ pub fn open(p: u32, n: usize, places: usize) -> u32
 
 // The number that a cycle with the list c returns, where s is the running series and `done` cycles are done.
 pub fn cycle(route: u32, p: u32, n: usize, done: u32, c: &[u32], s: &[u32], work: usize) -> u32
-    ensures { λ r. ⌜ r ≡ cycleRefusal route p n done (now (c .entry)) (now (s .entry)) work ⌝ }
+    ensures { λ r. ⌜ r ≡ cycleRefusal route (record { modulus = p; order = n; done = done }) (now (c .entry)) (now (s .entry)) work ⌝ }
 {
     let number = next_number(routed_number(route, p, n), 5, c.len() > LIMIT);
     let number = next_number(number, 6, s.len() != n);

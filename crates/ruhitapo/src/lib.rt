@@ -1,5 +1,8 @@
-// The C interface: compose, reverse, the table of primes and rendering as C functions. A slice passes as its pointer and its count.
-ghost use Rattle.definition.specs.Calls.{Compose, Render, Reverse, Table};
+// The C interface: compose, reverse, the calls of a chain, the table of primes and rendering as C functions. A slice passes as its
+// pointer and its count.
+use chain::Chain;
+ghost use Rattle.chain.specs.Record.{recorded};
+ghost use Rattle.definition.specs.Calls.{Compose, Cycle, Open, Render, Reverse, Table};
 
 // f(g) modulo x^n over the integers modulo p, by the route named.
 #[no_mangle]
@@ -31,6 +34,37 @@ pub extern "C" fn ruhitapo_reverse(
         (r .number) (r .weight) ⌝ }
 {
     reversion::reverse(p, n, g, out, work)
+}
+
+// Opens a chain: the running series becomes x modulo x^n.
+#[no_mangle]
+pub extern "C" fn ruhitapo_open(p: u32, n: usize, running: &mut [u32]) -> chain::Opened
+    ensures { λ r. ⌜ Open p n (now (running .entry)) (now (running .exit)) (r .number) (r .weight) (recorded (r .chain)) ⌝ }
+{
+    Chain::open(p, n, running)
+}
+
+// A cycle of a chain, whose record comes as its numbers.
+#[no_mangle]
+pub extern "C" fn ruhitapo_cycle_numbers(
+    modulus: u32,
+    order: usize,
+    done: u32,
+    route: u32,
+    list: &[u32],
+    running: &mut [u32],
+    work: &mut [u32],
+) -> chain::Cycled
+    ensures { λ r. ⌜ Cycle route (record { modulus = modulus; order = order; done = done }) (now (list .entry))
+        (now (running .entry)) (now (running .exit)) (now (work .entry)) (now (work .exit))
+        (r .number) (r .weight) (recorded (r .chain)) ⌝ }
+{
+    let chain = Chain {
+        modulus: modulus,
+        order: order,
+        done: done,
+    };
+    chain.cycle(route, list, running, work)
 }
 
 // Entry `index` of the table of the sixteen primes.

@@ -4,6 +4,7 @@ use native.Mathlib.Omega.{arith}
 use lib.ListN.{length}
 use mathlib.Core.Path.{sym, _∙_}
 use Rattle.chain.specs.Answered.{bounds-lent, cycle-accepted, cycle-refused}
+use Rattle.chain.specs.Record.{recorded}
 use Rattle.refusal.specs.Bounds.{CycleBounds, cycle-bounds}
 use Rattle.chain.proofs.Chain.cycle.Statement.{statement}
 use Rattle.chain.proofs.Chain.cycle.Tie as tie
@@ -24,9 +25,9 @@ module _ (c : tie.Else1) where
   abbrev begin : tie.Start
   begin = c .before .before .before .before .before .before
 
-  bounds : CycleBounds (begin .args .route) (begin .args .self .modulus) (begin .args .self .order) (begin .args .self .done)
-      (begin .args .list .now) (begin .args .running .now) (length (begin .args .work .now))
-  bounds = cycle-bounds _ _ _ _ _ _ _ (sym (c .before .cycle .ensures) ∙ c .if1 .left)
+  bounds : CycleBounds (begin .args .route) (recorded (begin .args .self)) (begin .args .list .now) (begin .args .running .now)
+      (length (begin .args .work .now))
+  bounds = cycle-bounds _ _ _ _ _ (sym (c .before .cycle .ensures) ∙ c .if1 .left)
 
 run-requires : tie.Need-run-requires
 run-requires c κs = (bounds-lent (bounds (c .before .before)), bounds (c .before .before) .field .prime)
@@ -37,7 +38,7 @@ value-requires c κs = search needs
 cycle-places-requires : tie.Need-cycle-places-requires
 cycle-places-requires c κs =
     let b = bounds (c .before .before .before .before .before .before) in
-    (b .field .order, b .outer)
+    (b .field .order, omega (arith, b .outer))
 
 finish-requires : tie.Need-finish-requires
 finish-requires c κs =
