@@ -1,15 +1,14 @@
 -- Route 3 on lists, for a prime p: f(g) modulo x^n from the values of the parts of f at order ⌈n/p⌉.
 --
 --   composedPart p n f g j   part j, composed at order ⌈n/p⌉ with h of the first ⌈n/p⌉ places of g
---   pthPowers-reduced        h holds the remainders of g's coefficients, by Fermat
 --   joinedFrom P n f g j     the parts from j on, joined by Horner's rule in g
 --   joined-top               of the top part nothing is joined
 --   joined-next              the join of one part more
 --   joined-all               with all parts joined this is f(g)
 -- Assumes nothing.
-use Prim.Native.Nat.{ℕ, suc, _+_, _-_, _%_, _<_, min}
+use Prim.Native.Nat.{ℕ, suc, _+_, _-_, _<_, min}
 use native.Mathlib.Decide.{decLt}
-use native.Mathlib.Nat.{add-zero, add-suc, le-refl, min-le-left, mod-mod, mod-lt, sub-zero, suc-add, zero-add, zero-mod}
+use native.Mathlib.Nat.{add-zero, add-suc, le-refl, min-le-left, mod-mod, mod-lt, sub-zero, suc-add, zero-add}
 use native.Mathlib.Omega.{arith}
 use mathlib.Core.Path.{_≡_, sym, ap, _∙_}
 use mathlib.Core.List.{List}
@@ -29,23 +28,23 @@ use Rattle.algebra.specs.Bridge.{
 }
 use Rattle.algebra.specs.Composition.{series-composed}
 use Rattle.algebra.specs.Evaluate.{evaluate-agree}
-use Rattle.algebra.specs.Fermat.{fermat}
 use Rattle.algebra.specs.Homomorphism.{coefficients-at}
-use Rattle.algebra.specs.Lists.{coefficient-tabulate, tabulate-beyond, tabulate-cong, coefficient-beyond}
+use Rattle.algebra.specs.Lists.{coefficient-tabulate, tabulate-beyond}
 use Rattle.algebra.specs.Parts.{bernstein}
 use Rattle.algebra.specs.Power.{power, power-0, power-suc}
 use Rattle.algebra.specs.Prime.{prime-positive}
 use Rattle.algebra.specs.Residue.{Residue, residues, reduction, residue-equal}
-use Rattle.product.specs.Segments.{coefficient-segment}
 use Rattle.algebra.specs.Semiring.{Semiring, ring, 𝟙-⊗, 𝟘-⊕}
 use Rattle.algebra.specs.Series.{Series}
 use Rattle.algebra.specs.Spread.{spread, spread-agree, residues-power-spread}
 use Rattle.algebra.specs.Sum.{sum, sum-0, sum-suc, sum-first, sum-cong, sum-⊗}
-use Rattle.definition.specs.Bernstein.{part, pthPowers, pthPowerAt, spreadList}
-use Rattle.definition.specs.Lists.{tabulate, coefficient, ceilDiv}
+use Rattle.definition.specs.Bernstein.{part, pthPowers, spreadList}
+use Rattle.definition.specs.Lists.{coefficient, ceilDiv}
 use Rattle.definition.specs.Prime.{Prime}
 use Rattle.definition.specs.Ranged.{joined}
 use Rattle.definition.specs.Substitution.{composed, composedAt, substituted}
+use Rattle.parts.specs.Steps.{coefficient-powers}
+use Rattle.product.specs.Segments.{coefficient-segment}
 
 abbrev pub composedPart : ℕ → ℕ → List ℕ → List ℕ → ℕ → List ℕ
 composedPart p n f g j = composed p (ceilDiv n p) (part p j f) (pthPowers p (take (ceilDiv n p) g))
@@ -54,24 +53,11 @@ module _ {p : ℕ} (P : Prime p) where
   positive : 0 < p
   positive = prime-positive P
 
-  pub pthPowers-reduced : (g : List ℕ) → pthPowers p g ≡ tabulate (length g) (λ i. coefficient g i % p)
-  unfolding pthPowers pthPowerAt
-  pthPowers-reduced g = tabulate-cong (length g) (pthPowerAt p g) (λ i. coefficient g i % p) (λ i b. fermat P (coefficient g i))
-
-  coefficient-powers : (g : List ℕ) (k : ℕ) → coefficient (pthPowers p g) k ≡ coefficient g k % p
-  coefficient-powers g k =
-      rw (pthPowers-reduced g)
-      (elim (decLt k (length g)) [
-        | yes b ↦ coefficient-tabulate (length g) (λ i. coefficient g i % p) k b
-        | no b ↦ tabulate-beyond (length g) (λ i. coefficient g i % p) k (omega arith)
-            ∙ rw (coefficient-beyond g k (omega arith), zero-mod)
-      ])
-
   -- over the residues h is g, below ⌈n/p⌉
   powers-agree : (n : ℕ) (g : List ℕ) → Agree n (series-of positive (pthPowers p (take n g))) (series-of positive g)
   powers-agree n g k b =
       rw (coefficients-at (reduction positive), coefficients-at (reduction positive))
-      (residue-equal positive _ _ .1 (rw (coefficient-powers (take n g) k, mod-mod, coefficient-segment g 0 n k b, zero-add)))
+      (residue-equal positive _ _ .1 (rw (coefficient-powers P (take n g) k, mod-mod, coefficient-segment g 0 n k b, zero-add)))
 
   composed-below : (n : ℕ) (f g : List ℕ) (k : ℕ) → coefficient (composed p n f g) k < p
   unfolding composed composedAt

@@ -37,12 +37,12 @@ use Rattle.bernstein.proofs.parts.Reads as parts
 use Rattle.bernstein.proofs.+level+part_value+parts.Lts-parts as parts-lts
 use Rattle.bernstein.proofs.constant.Reads as constant-reads
 use Rattle.bernstein.proofs.join.Reads as join-reads
-use Rattle.bernstein.proofs.part.Reads as part-reads
 use Rattle.bernstein.proofs.prepare.Reads as prepare-reads
-use Rattle.bernstein.proofs.rounded_up.Reads as rounded-up-reads
-use Rattle.bernstein.proofs.spread.Reads as spread-reads
-use Rattle.bernstein.proofs.top_part.Reads as top-part-reads
 use Rattle.buffer.proofs.move_down.Reads as move-down-reads
+use Rattle.number.proofs.rounded_up.Reads as rounded-up-reads
+use Rattle.parts.proofs.part.Reads as part-reads
+use Rattle.parts.proofs.spread.Reads as spread-reads
+use Rattle.parts.proofs.top_part.Reads as top-part-reads
 use Rattle.product.proofs.Weight.none.Reads as none-reads
 use Rattle.product.proofs.Weight.plus.Reads as plus-reads
 use Rattle.bernstein.proofs.+level+part_value+parts.{statement}
