@@ -49,6 +49,21 @@ use Rattle.product.specs.Segments.{coefficient-segment}
 abbrev pub composedPart : ℕ → ℕ → List ℕ → List ℕ → ℕ → List ℕ
 composedPart p n f g j = composed p (ceilDiv n p) (part p j f) (pthPowers p (take (ceilDiv n p) g))
 
+-- the sum of s^i times t (j + i) for k terms, by Horner's rule
+module _ {A : Type 0} (S : Semiring A) (s : A) (t : ℕ → A) where
+  open Semiring S using (_⊕_, _⊗_)
+
+  abbrev terms : ℕ → ℕ → A
+  terms j k = sum S k (λ i. power S s i ⊗ t (j + i))
+
+  terms-1 : (j : ℕ) → terms j 1 ≡ t j
+  terms-1 j = rw (sum-suc S 0 _, sum-0, 𝟘-⊕ S, power-0, 𝟙-⊗ S, add-zero)
+
+  terms-suc : (j k : ℕ) → terms j (suc k) ≡ t j ⊕ terms (suc j) k ⊗ s
+  terms-suc j k =
+      rw (sum-first S k _, power-0, 𝟙-⊗ S, add-zero, sum-⊗ S)
+      (ap (λ r. t j ⊕ r) (sum-cong S k _ _ (λ i b. simp (power-suc, add-suc, suc-add, ring))))
+
 module _ {p : ℕ} (P : Prime p) where
   positive : 0 < p
   positive = prime-positive P
@@ -88,32 +103,23 @@ module _ {p : ℕ} (P : Prime p) where
         (evaluate-agree (residues positive) (scalars positive) (part p j f) (powers-agree order g))))
 
     -- the sum of g^i times part j + i, for k parts
-    abbrev terms : ℕ → ℕ → Series (Residue p)
-    terms j k = sum (residue-series positive) k (λ i. power (residue-series positive) inner i ⊠ term (j + i))
-
-    terms-1 : (j : ℕ) → terms j 1 ≡ term j
-    terms-1 j =
-        rw (sum-suc (residue-series positive) 0 _, sum-0, 𝟘-⊕ (residue-series positive), power-0, 𝟙-⊗ (residue-series positive), add-zero)
-
-    terms-suc : (j k : ℕ) → terms j (suc k) ≡ term j ⊞ terms (suc j) k ⊠ inner
-    terms-suc j k =
-        rw (sum-first (residue-series positive) k _, power-0, 𝟙-⊗ (residue-series positive), add-zero, sum-⊗ (residue-series positive))
-        (ap (λ s. term j ⊞ s) (sum-cong (residue-series positive) k _ _ (λ i b. simp (power-suc, add-suc, suc-add, ring))))
+    abbrev parts : ℕ → ℕ → Series (Residue p)
+    parts = terms (residue-series positive) inner term
 
     pub joinedFrom : ℕ → List ℕ
-    joinedFrom j = listed n (terms j (min p (length f) - j))
+    joinedFrom j = listed n (parts j (min p (length f) - j))
 
     pub joined-top : (j : ℕ) → suc j ≡ min p (length f) → spreadList p n (composedPart p n f g j) ≡ joinedFrom j
     unfolding joinedFrom
     joined-top j e =
         let one : min p (length f) - j ≡ 1 = omega arith in
-        spread-part j ∙ rw one (ap (listed n) (sym (terms-1 j)))
+        spread-part j ∙ rw one (ap (listed n) (sym (terms-1 (residue-series positive) inner term j)))
 
     pub joined-next : (j : ℕ) → j < min p (length f) → joined p n (spreadList p n (composedPart p n f g j)) (joinedFrom (suc j)) g ≡ joinedFrom j
     unfolding joinedFrom
     joined-next j b =
         let more : min p (length f) - j ≡ suc (min p (length f) - suc j) = omega arith in
-        rw (spread-part j, joined-listed positive, more, terms-suc j (min p (length f) - suc j))
+        rw (spread-part j, joined-listed positive, more, terms-suc (residue-series positive) inner term j (min p (length f) - suc j))
         (listed-agree
         (agree-⊞ (residues positive) (series-listed positive n (term j))
         (agree-⊠ (residues positive) (series-listed positive n _) (agree-refl inner))))
