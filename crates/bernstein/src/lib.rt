@@ -65,7 +65,7 @@ fn part_value(p: u32, n: usize, m: usize, j: usize, w: &mut [u32]) -> Weight
 }
 
 // The parts from the top one down, joined by Horner's rule in g.
-fn parts(p: u32, n: usize, m: usize, w: &mut [u32]) -> Weight
+fn join_parts(p: u32, n: usize, m: usize, w: &mut [u32]) -> Weight
     requires { ⌜ Room p n m (now w) × (1 < m) ⌝ }
     ensures { λ r. ⌜ Level p n m (now (w .entry)) (now (w .exit)) (r .places) ⌝ }
 {
@@ -92,7 +92,7 @@ fn level(p: u32, n: usize, m: usize, w: &mut [u32]) -> Weight
         constant(p, n, m, w);
         return Weight::none();
     }
-    parts(p, n, m, w)
+    join_parts(p, n, m, w)
 }
 
 // Route 3: f(g) modulo x^n, for a prime p, at place 0 of w.
