@@ -1,4 +1,4 @@
--- What the proof of the cycle of calls {level, part_value, parts} stands on.
+-- What the proof of the cycle of calls {join_parts, level, part_value} stands on.
 --
 --   Cycle   measures, and what the members ask of each other
 mod Cycle

@@ -4,7 +4,6 @@
 --   nextAt restAt     where the next part's value and the rest begin
 --   Room              what a level requires
 --   Level             what a level ensures
---   Parted            the contract of `part`
 --   PartReady         what `part_value` requires: h stands at the beginning of the rest
 --   PartValue         what `part_value` ensures
 --   Joined            the contract of `join`
@@ -22,7 +21,7 @@ use Rattle.algebra.specs.Composition.{length-composed}
 use Rattle.algebra.specs.Lists.{length-tabulate, tabulate-coefficient}
 use Rattle.bernstein.specs.Split.{composedPart}
 use Rattle.bernstein.specs.Weights.{weight-low}
-use Rattle.definition.specs.Bernstein.{part, partCount, pthPowers, spreadList}
+use Rattle.definition.specs.Bernstein.{partCount, pthPowers, spreadList}
 use Rattle.definition.specs.Lists.{ceilDiv, coefficient, tabulate}
 use Rattle.definition.specs.Prime.{Prime}
 use Rattle.definition.specs.Ranged.{joined}
@@ -50,10 +49,6 @@ pub record Level (p n m : ℕ) (before after : List ℕ) (result : ℕ) : Type 0
   pub within : Within (n + m) (5 * (n + m)) before after
   pub value : segment after (n + m) n ≡ composed p n (segment before n m) (segment before 0 n)
   pub sum : result ≡ bernsteinWeight p n m
-
-pub record Parted (p j a m t : ℕ) (before after : List ℕ) (result : ℕ) : Type 0 where
-  pub written : after ≡ sets before t (part p j (segment before a m))
-  pub count : result ≡ partCount p j m
 
 pub record PartReady (p n m j : ℕ) (w : List ℕ) : Type 0 where
   pub room : Room p n m w

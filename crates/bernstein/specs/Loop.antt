@@ -21,17 +21,17 @@ use mathlib.Core.Path.{_≡_, sym, ap, _∙_}
 use mathlib.Core.List.{List}
 use lib.ListN.{length}
 use lib.Seq.{sets}
-use Rattle.algebra.specs.Lists.{length-tabulate}
-use Rattle.bernstein.specs.Counts.{ceilDiv-half}
 use Rattle.bernstein.specs.Join.{room-length, moved-within, moved-value}
 use Rattle.bernstein.specs.Level.{Joined, Level, PartReady, PartValue, Room, nextAt, restAt}
 use Rattle.bernstein.specs.Split.{composedPart, joinedFrom, joined-top, joined-next, joined-all}
 use Rattle.bernstein.specs.Weights.{weightOfPart, weight-parts, weight-small}
 use Rattle.buffer.specs.Written.{length-part}
-use Rattle.definition.specs.Bernstein.{pthPowers, pthPowerAt, spreadList}
+use Rattle.definition.specs.Bernstein.{pthPowers, spreadList}
 use Rattle.definition.specs.Lists.{sum, ceilDiv}
 use Rattle.definition.specs.Prime.{Prime}
 use Rattle.definition.specs.Weight.{bernsteinWeight}
+use Rattle.parts.specs.Counts.{ceilDiv-half}
+use Rattle.parts.specs.Steps.{length-powers}
 use Rattle.product.specs.Segments.{segment, Apart}
 use Rattle.route.specs.Within.{Within, within-refl, within-trans, within-wider, within-sets, segment-within, segment-sets}
 
@@ -67,18 +67,15 @@ module _ {p n m : ℕ} {before : List ℕ} (room : Room p n m before) where
   abbrev h : List ℕ
   h = pthPowers p (segment before 0 (ceilDiv n p))
 
-  length-powers : length h ≡ ceilDiv n p
-  unfolding pthPowers
-  length-powers =
-      let g = segment before 0 (ceilDiv n p) in
-      length-tabulate (length g) (pthPowerAt p g) ∙ length-part before 0 (ceilDiv n p) (room-powers .source)
+  length-h : length h ≡ ceilDiv n p
+  length-h = length-powers p _ ∙ length-part before 0 (ceilDiv n p) (room-powers .source)
 
   pub prepared-first : {now : List ℕ} → 1 < m → now ≡ sets before (restAt n m) h → Prepared p n m before now
   prepared-first several written = record {
     room = room;
     several = several;
-    within = rw written (within-sets before (restAt n m) h (omega arith) (omega (arith, length-powers, half)));
-    powers = rw written (segment-sets before (restAt n m) h (ceilDiv n p) length-powers (room-powers .target));
+    within = rw written (within-sets before (restAt n m) h (omega arith) (omega (arith, length-h, half)));
+    powers = rw written (segment-sets before (restAt n m) h (ceilDiv n p) length-h (room-powers .target));
   }
 
 module _ {p n m : ℕ} {before now : List ℕ} (prepared : Prepared p n m before now) where

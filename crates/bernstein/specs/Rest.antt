@@ -16,19 +16,14 @@ use mathlib.Core.Path.{_≡_, sym, ap, _∙_}
 use mathlib.Core.List.{List, _++_}
 use lib.ListN.{length, take, drop, length-drop}
 use lib.Seq.{sets, drop-drop}
-use Rattle.algebra.specs.Lists.{length-tabulate}
-use Rattle.bernstein.specs.Counts.{ceilDiv-half, ceilDiv-positive, partCount-half}
-use Rattle.bernstein.specs.Level.{Level, Parted, PartReady, PartValue, Room, nextAt, restAt}
+use Rattle.bernstein.specs.Level.{Level, PartReady, PartValue, Room, nextAt, restAt}
 use Rattle.bernstein.specs.Split.{composedPart}
-use Rattle.buffer.specs.Written.{length-part}
-use Rattle.definition.specs.Bernstein.{part, partAt, partCount, pthPowers, spread, spreadList}
-use Rattle.definition.specs.Lists.{ceilDiv, coefficient}
+use Rattle.definition.specs.Bernstein.{part, pthPowers, spreadList}
+use Rattle.definition.specs.Lists.{ceilDiv}
+use Rattle.parts.specs.Counts.{ceilDiv-half, ceilDiv-positive, partCount-half}
+use Rattle.parts.specs.Steps.{Parted, parted-length, length-spread}
 use Rattle.product.specs.Segments.{segment, Apart, segment-segment}
 use Rattle.route.specs.Within.{Within, rest-back, rest-lent, within-trans, within-wider, within-sets, within-rest, segment-within, segment-sets, segment-rest}
-
-length-spread : (p n : ℕ) (s : List ℕ) → length (spreadList p n s) ≡ n
-unfolding spreadList
-length-spread p n s = length-tabulate n (spread p (coefficient s))
 
 module _ {p n m j order : ℕ} {w : List ℕ} (ready : PartReady p n m j w) (rounded : order ≡ ceilDiv n p) where
   half-order : 2 * order ≤ n + 1
@@ -51,11 +46,7 @@ module _ {p n m j order : ℕ} {w : List ℕ} (ready : PartReady p n m j w) (rou
     f = segment w n m
 
     length-of-part : length (part p j f) ≡ count
-    unfolding part
-    length-of-part =
-        length-tabulate (partCount p j (length f)) (partAt p j f)
-        ∙ ap (partCount p j) (length-part w n m (omega arith))
-        ∙ sym (parted .count)
+    length-of-part = parted-length (room-part .source) parted
 
     part-within : Within (restAt n m + order) count w v
     part-within =

@@ -14,11 +14,11 @@ use borrow.Author.Tests.{le-leb, lt-leb}
 use Rattle.algebra.specs.Lists.{sum-cong, sum-naturals}
 use Rattle.algebra.specs.Semiring.{naturals}
 use Rattle.algebra.specs.Sum.{⊗-sum}
-use Rattle.bernstein.specs.Counts.{ceilDiv-half, partCount-half, partCount-sum}
 use Rattle.definition.specs.Bernstein.{partCount}
 use Rattle.definition.specs.Lists.{sum, ceilDiv}
 use Rattle.definition.specs.Refusal.{limit}
 use Rattle.definition.specs.Weight.{bernsteinLevels, bernsteinWeight}
+use Rattle.parts.specs.Counts.{ceilDiv-half, partCount-half, partCount-sum}
 
 sum-≤ : (n : ℕ) (f g : ℕ → ℕ) → ((k : ℕ) → k < n → f k ≤ g k) → sum n f ≤ sum n g
 unfolding sum

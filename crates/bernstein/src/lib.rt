@@ -4,84 +4,17 @@
 // the next level, which finds h and a part of f there.
 use product::Weight;
 ghost use mathlib.Core.Path.{_≡_};
-ghost use Prim.Native.Nat.{_+_, _-_, _<_, _≤_, _^_, min};
+ghost use Prim.Native.Nat.{_+_, _<_, _≤_};
 ghost use lib.ListN.{length};
 ghost use lib.Seq.{sets};
-ghost use Rattle.definition.specs.Bernstein.{pthPowers, spread, spreadList};
-ghost use Rattle.definition.specs.Lists.{ceilDiv, coefficient};
+ghost use Rattle.definition.specs.Bernstein.{pthPowers};
+ghost use Rattle.definition.specs.Lists.{ceilDiv};
 ghost use Rattle.definition.specs.Prime.{Prime};
 ghost use Rattle.definition.specs.Substitution.{composed};
 ghost use Rattle.definition.specs.Weight.{bernsteinWeight};
-ghost use Rattle.product.specs.Segments.{segment, Apart};
+ghost use Rattle.product.specs.Segments.{segment};
 ghost use Rattle.route.specs.Contract.{Lent, Route};
-ghost use Rattle.bernstein.specs.Level.{Joined, Level, PartReady, PartValue, Parted, Room, restAt};
-
-// a / b, rounded up.
-fn rounded_up(a: usize, b: usize) -> usize
-    requires { ⌜ (0 < b) × (a + b < 2 ^ 64) ⌝ }
-    ensures { λ r. ⌜ r ≡ ceilDiv a b ⌝ }
-{
-    (a + (b - 1)) / b
-}
-
-// The number of the top part of m places.
-fn top_part(p: u32, m: usize) -> usize
-    requires { ⌜ (0 < p) × (0 < m) ⌝ }
-    ensures { λ r. ⌜ r ≡ min p m - 1 ⌝ }
-{
-    number::smaller(p as usize, m) - 1
-}
-
-// Writes part j of the m places from a on, from place t on. Gives the count of its places.
-fn part(p: usize, j: usize, w: &mut [u32], a: usize, m: usize, t: usize) -> usize
-    requires { ⌜ (0 < p) × (j < m) × (m + p < 2 ^ 64) × Apart (now w) a m t m ⌝ }
-    ensures { λ r. ⌜ Parted p j a m t (now (w .entry)) (now (w .exit)) r ⌝ }
-{
-    let count = rounded_up(m - j, p);
-    let mut i = 0;
-    while i < count {
-        w[t + i] = w[a + (j + p * i)];
-        i += 1;
-    }
-    count
-}
-
-// Writes the p-th powers of the k places from a on, modulo p, from place t on. Modulo a prime, a number is its own p-th power.
-fn pth_powers(p: u32, w: &mut [u32], a: usize, k: usize, t: usize)
-    requires { ⌜ Prime p × Apart (now w) a k t k ⌝ }
-    ensures { λ _. ⌜ now (w .exit) ≡ sets (now (w .entry)) t (pthPowers p (segment (now (w .entry)) a k)) ⌝ }
-{
-    let mut i = 0;
-    while i < k {
-        w[t + i] = w[a + i] % p;
-        i += 1;
-    }
-}
-
-// Coefficient k of a list with x^p put for y.
-fn spread_coefficient(p: usize, l: &[u32], k: usize) -> u32
-    requires { ⌜ 0 < p ⌝ }
-    ensures { λ r. ⌜ r ≡ spread p (coefficient (now (l .entry))) k ⌝ }
-{
-    if k % p == 0 {
-        route::place(l, k / p)
-    } else {
-        0
-    }
-}
-
-// Writes the k places from a on, with x^p put for y and cut to n places, from place t on.
-fn spread(p: usize, n: usize, w: &mut [u32], a: usize, k: usize, t: usize)
-    requires { ⌜ (0 < p) × Apart (now w) a k t n ⌝ }
-    ensures { λ _. ⌜ now (w .exit) ≡ sets (now (w .entry)) t (spreadList p n (segment (now (w .entry)) a k)) ⌝ }
-{
-    let end = a + k;
-    let mut i = 0;
-    while i < n {
-        w[t + i] = spread_coefficient(p, &w[a..end], i);
-        i += 1;
-    }
-}
+ghost use Rattle.bernstein.specs.Level.{Joined, Level, PartReady, PartValue, Room, restAt};
 
 // Writes f(0) modulo p, for f of at most one place.
 fn constant(p: u32, n: usize, m: usize, w: &mut [u32])
@@ -99,8 +32,8 @@ fn prepare(p: u32, n: usize, m: usize, w: &mut [u32])
     requires { ⌜ Room p n m (now w) ⌝ }
     ensures { λ _. ⌜ now (w .exit) ≡ sets (now (w .entry)) (restAt n m) (pthPowers p (segment (now (w .entry)) 0 (ceilDiv n p))) ⌝ }
 {
-    let order = rounded_up(n, p as usize);
-    pth_powers(p, w, 0, order, n + m + n + n);
+    let order = number::rounded_up(n, p as usize);
+    parts::pth_powers(p, w, 0, order, n + m + n + n);
 }
 
 // Joins the next part's value to the value: it becomes the next one + the value × g, cut to n places.
@@ -123,22 +56,22 @@ fn part_value(p: u32, n: usize, m: usize, j: usize, w: &mut [u32]) -> Weight
     let next = n + m + n;
     let rest = next + n;
     let step = p as usize;
-    let order = rounded_up(n, step);
+    let order = number::rounded_up(n, step);
     let at = rest + order;
-    let count = part(step, j, w, n, m, at);
+    let count = parts::part(step, j, w, n, m, at);
     let sum = level(p, order, count, &mut w[rest..]);
-    spread(step, n, w, at + count, order, next);
+    parts::spread(step, n, w, at + count, order, next);
     sum
 }
 
 // The parts from the top one down, joined by Horner's rule in g.
-fn parts(p: u32, n: usize, m: usize, w: &mut [u32]) -> Weight
+fn join_parts(p: u32, n: usize, m: usize, w: &mut [u32]) -> Weight
     requires { ⌜ Room p n m (now w) × (1 < m) ⌝ }
     ensures { λ r. ⌜ Level p n m (now (w .entry)) (now (w .exit)) (r .places) ⌝ }
 {
     let value = n + m;
     prepare(p, n, m, w);
-    let mut j = top_part(p, m);
+    let mut j = parts::top_part(p, m);
     let mut weight = part_value(p, n, m, j, w);
     buffer::move_down(w, value + n, value, n);
     while 0 < j {
@@ -159,7 +92,7 @@ fn level(p: u32, n: usize, m: usize, w: &mut [u32]) -> Weight
         constant(p, n, m, w);
         return Weight::none();
     }
-    parts(p, n, m, w)
+    join_parts(p, n, m, w)
 }
 
 // Route 3: f(g) modulo x^n, for a prime p, at place 0 of w.

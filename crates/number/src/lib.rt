@@ -1,6 +1,7 @@
-// Counts: the smaller of two, a difference that stops at 0, and the number of halvings.
+// Counts: the smaller of two, a difference that stops at 0, a quotient rounded up, and the number of halvings.
 ghost use mathlib.Core.Path.{_≡_};
-ghost use Prim.Native.Nat.{_-_, min};
+ghost use Prim.Native.Nat.{_+_, _-_, _<_, _^_, min};
+ghost use Rattle.definition.specs.Lists.{ceilDiv};
 ghost use Rattle.definition.specs.Weight.{halvings};
 
 // The smaller of two numbers.
@@ -15,6 +16,14 @@ pub fn excess(a: usize, b: usize) -> usize
     ensures { λ r. ⌜ r ≡ a - b ⌝ }
 {
     if a < b { 0 } else { a - b }
+}
+
+// a / b, rounded up.
+pub fn rounded_up(a: usize, b: usize) -> usize
+    requires { ⌜ (0 < b) × (a + b < 2 ^ 64) ⌝ }
+    ensures { λ r. ⌜ r ≡ ceilDiv a b ⌝ }
+{
+    (a + (b - 1)) / b
 }
 
 // K, the least number with 2^K at least n, from the leading zeros of n - 1.

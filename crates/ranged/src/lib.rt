@@ -59,7 +59,7 @@ fn rounds(m: usize, b: usize) -> usize
     requires { ⌜ (m ≤ limit) × (0 < b) × (b ≤ 64) ⌝ }
     ensures { λ r. ⌜ r ≡ halvings (ceilDiv m b) ⌝ }
 {
-    number::halvings((m + (b - 1)) / b)
+    number::halvings(number::rounded_up(m, b))
 }
 
 // 2^level

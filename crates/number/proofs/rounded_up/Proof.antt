@@ -1,9 +1,9 @@
--- `bernstein::rounded_up` meets its contract. Assumes nothing.
+-- `number::rounded_up` meets its contract. Assumes nothing.
 use borrow.Author.Needs.{needs}
 use mathlib.Core.Path.{refl}
 use Rattle.definition.specs.Lists.{ceilDiv}
-use Rattle.bernstein.proofs.rounded_up.Statement.{statement}
-use Rattle.bernstein.proofs.rounded_up.Tie as tie
+use Rattle.number.proofs.rounded_up.Statement.{statement}
+use Rattle.number.proofs.rounded_up.Tie as tie
 
 sub-result : tie.Need-sub-result
 sub-result c = search needs

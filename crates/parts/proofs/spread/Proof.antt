@@ -1,4 +1,4 @@
--- `bernstein::spread` meets its contract: after i turns the first i places are written. Assumes nothing.
+-- `parts::spread` meets its contract: after i turns the first i places are written. Assumes nothing.
 use borrow.Author.Needs.{needs}
 use native.Mathlib.Nat.{add-sub-cancel-left}
 use native.Mathlib.Omega.{arith}
@@ -8,8 +8,8 @@ use Rattle.definition.specs.Bernstein.{spread, spreadList}
 use Rattle.definition.specs.Lists.{coefficient}
 use Rattle.product.specs.Segments.{segment}
 use Rattle.route.specs.Filling.{Filling, filling-first, filling-kept, filling-last, filling-next}
-use Rattle.bernstein.proofs.spread.Statement.{statement}
-use Rattle.bernstein.proofs.spread.Tie as tie
+use Rattle.parts.proofs.spread.Statement.{statement}
+use Rattle.parts.proofs.spread.Tie as tie
 
 abbrev Inv-loop : tie.InvT-loop
 Inv-loop p n w₀ a k t end i₀ w i = Filling (spread p (coefficient (segment w₀ a k))) t n w₀ w i

@@ -1,4 +1,4 @@
--- `bernstein::pth_powers` meets its contract: after i turns the first i places are written. Assumes nothing.
+-- `parts::pth_powers` meets its contract: after i turns the first i places are written. Assumes nothing.
 use borrow.Author.Needs.{needs}
 use native.Mathlib.Omega.{arith}
 use Prim.Native.Nat.{_-_, _%_}
@@ -7,9 +7,9 @@ use Rattle.buffer.specs.Written.{length-part}
 use Rattle.definition.specs.Lists.{coefficient}
 use Rattle.product.specs.Segments.{segment}
 use Rattle.route.specs.Filling.{Filling, filling-first, filling-last, filling-next, filling-place}
-use Rattle.bernstein.specs.Split.{pthPowers-reduced}
-use Rattle.bernstein.proofs.pth_powers.Statement.{statement}
-use Rattle.bernstein.proofs.pth_powers.Tie as tie
+use Rattle.parts.specs.Steps.{pthPowers-reduced}
+use Rattle.parts.proofs.pth_powers.Statement.{statement}
+use Rattle.parts.proofs.pth_powers.Tie as tie
 
 abbrev Inv-loop : tie.InvT-loop
 Inv-loop p w₀ a k t i₀ w i = Filling (λ x. coefficient (segment w₀ a k) x % p) t k w₀ w i

@@ -1,4 +1,4 @@
--- `bernstein::part` meets its contract: after i turns the first i places of the part are written. Assumes nothing.
+-- `parts::part` meets its contract: after i turns the first i places of the part are written. Assumes nothing.
 use borrow.Author.Needs.{needs}
 use native.Mathlib.Omega.{arith}
 use Prim.Native.Nat.{ℕ, _+_, _*_, _-_, _<_}
@@ -8,9 +8,9 @@ use Rattle.buffer.specs.Written.{length-part}
 use Rattle.definition.specs.Bernstein.{part, partAt, partCount}
 use Rattle.product.specs.Segments.{Apart, segment, apart-within}
 use Rattle.route.specs.Filling.{Filling, filling-first, filling-last, filling-next, filling-place}
-use Rattle.bernstein.specs.Counts.{part-place}
-use Rattle.bernstein.proofs.part.Statement.{statement}
-use Rattle.bernstein.proofs.part.Tie as tie
+use Rattle.parts.specs.Counts.{part-place}
+use Rattle.parts.proofs.part.Statement.{statement}
+use Rattle.parts.proofs.part.Tie as tie
 
 abbrev Inv-loop : tie.InvT-loop
 Inv-loop p j w₀ a m t count i₀ w i = Filling (partAt p j (segment w₀ a m)) t count w₀ w i

@@ -1,4 +1,4 @@
--- The proof of the cycle of calls {level, part_value, parts}. Assumes nothing.
+-- The proof of the cycle of calls {join_parts, level, part_value}. Assumes nothing.
 use Prim.Native.Nat.{ℕ, suc, _+_, _-_, _^_, _<_}
 use borrow.Author.Needs.{needs}
 use native.Mathlib.Omega.{arith}
@@ -21,37 +21,37 @@ use Rattle.bernstein.specs.Rest.{fewer, rest-fits, part-value-written, r
 use Rattle.bernstein.proofs.Cycle.{
   μ-level,
   μ-part-value,
-  μ-parts,
+  μ-join-parts,
   level-at,
   level-below,
   part-value-at,
   part-value-below,
-  parts-at,
-  parts-below,
+  join-parts-at,
+  join-parts-below,
 }
 use Rattle.bernstein.proofs.level.Reads as level
-use Rattle.bernstein.proofs.+level+part_value+parts.Lts-level as level-lts
+use Rattle.bernstein.proofs.+join_parts+level+part_value.Lts-level as level-lts
 use Rattle.bernstein.proofs.part_value.Reads as part-value
-use Rattle.bernstein.proofs.+level+part_value+parts.Lts-part_value as part-value-lts
-use Rattle.bernstein.proofs.parts.Reads as parts
-use Rattle.bernstein.proofs.+level+part_value+parts.Lts-parts as parts-lts
+use Rattle.bernstein.proofs.+join_parts+level+part_value.Lts-part_value as part-value-lts
+use Rattle.bernstein.proofs.join_parts.Reads as join-parts
+use Rattle.bernstein.proofs.+join_parts+level+part_value.Lts-join_parts as join-parts-lts
 use Rattle.bernstein.proofs.constant.Reads as constant-reads
 use Rattle.bernstein.proofs.join.Reads as join-reads
-use Rattle.bernstein.proofs.part.Reads as part-reads
 use Rattle.bernstein.proofs.prepare.Reads as prepare-reads
-use Rattle.bernstein.proofs.rounded_up.Reads as rounded-up-reads
-use Rattle.bernstein.proofs.spread.Reads as spread-reads
-use Rattle.bernstein.proofs.top_part.Reads as top-part-reads
 use Rattle.buffer.proofs.move_down.Reads as move-down-reads
+use Rattle.number.proofs.rounded_up.Reads as rounded-up-reads
+use Rattle.parts.proofs.part.Reads as part-reads
+use Rattle.parts.proofs.spread.Reads as spread-reads
+use Rattle.parts.proofs.top_part.Reads as top-part-reads
 use Rattle.product.proofs.Weight.none.Reads as none-reads
 use Rattle.product.proofs.Weight.plus.Reads as plus-reads
-use Rattle.bernstein.proofs.+level+part_value+parts.{statement}
-use Rattle.bernstein.proofs.+level+part_value+parts.Tie.{close}
+use Rattle.bernstein.proofs.+join_parts+level+part_value.{statement}
+use Rattle.bernstein.proofs.+join_parts+level+part_value.Tie.{close}
 
 module _ (t : ℕ) where
   -- what a member asks of those that it calls, and learns from them
   abbrev level-calls : level-lts.Claims
-  level-calls = (constant-reads.Asked, constant-reads.Learnt, none-reads.Asked, none-reads.Learnt, parts-below t, parts.Post)
+  level-calls = (constant-reads.Asked, constant-reads.Learnt, none-reads.Asked, none-reads.Learnt, join-parts-below t, join-parts.Post)
 
   abbrev part-value-calls : part-value-lts.Claims
   part-value-calls = (
@@ -65,8 +65,8 @@ module _ (t : ℕ) where
     spread-reads.Learnt,
   )
 
-  abbrev parts-calls : parts-lts.Claims
-  parts-calls = (
+  abbrev join-parts-calls : join-parts-lts.Claims
+  join-parts-calls = (
     prepare-reads.Asked,
     prepare-reads.Learnt,
     top-part-reads.Asked,
@@ -96,8 +96,8 @@ module _ (t : ℕ) where
       let then = written .before .before in
       rw (c .none .ensures) (level-constant (then .before .before .pre .1) (then .if1 .taken) (written .constant .ensures))
 
-  level-parts-requires : level-lts.Need-parts-requires level-calls (level-at t) level.Post
-  level-parts-requires c κs = search needs
+  level-join-parts-requires : level-lts.Need-join-parts-requires level-calls (level-at t) level.Post
+  level-join-parts-requires c κs = search needs
 
   level-same-length-2 : level-lts.Need-same-length-2 level-calls (level-at t) level.Post
   level-same-length-2 c = search needs
@@ -173,41 +173,41 @@ module _ (t : ℕ) where
       let rounded = at .before .before .rounded-up .ensures in
       part-value-written (start .pre .1) rounded (at .part .ensures) (level .level .ensures) (c .before .before .spread .ensures)
 
-  abbrev parts-Inv : parts-lts.InvT-loop
-  parts-Inv p n m w₀ value j₀ weight₀ w j weight = PartsJoined p n m w₀ j w (weight .places)
+  abbrev join-parts-Inv : join-parts-lts.InvT-loop
+  join-parts-Inv p n m w₀ value j₀ weight₀ w j weight = PartsJoined p n m w₀ j w (weight .places)
 
-  abbrev parts-μ : parts-lts.MeasureT-loop
-  parts-μ p n m w₀ value j₀ weight₀ w j weight = j
+  abbrev join-parts-μ : join-parts-lts.MeasureT-loop
+  join-parts-μ p n m w₀ value j₀ weight₀ w j weight = j
 
-  parts-add-value : parts-lts.Need-add-value parts-calls (parts-at t) parts.Post parts-Inv parts-μ
-  parts-add-value c = search needs
+  join-parts-add-value : join-parts-lts.Need-add-value join-parts-calls (join-parts-at t) join-parts.Post join-parts-Inv join-parts-μ
+  join-parts-add-value c = search needs
 
-  parts-prepare-requires : parts-lts.Need-prepare-requires parts-calls (parts-at t) parts.Post parts-Inv parts-μ
-  parts-prepare-requires c κs = search needs
+  join-parts-prepare-requires : join-parts-lts.Need-prepare-requires join-parts-calls (join-parts-at t) join-parts.Post join-parts-Inv join-parts-μ
+  join-parts-prepare-requires c κs = search needs
 
-  parts-top-part-requires : parts-lts.Need-top-part-requires parts-calls (parts-at t) parts.Post parts-Inv parts-μ
-  parts-top-part-requires c κs = search needs
+  join-parts-top-part-requires : join-parts-lts.Need-top-part-requires join-parts-calls (join-parts-at t) join-parts.Post join-parts-Inv join-parts-μ
+  join-parts-top-part-requires c κs = search needs
 
   -- h is written
-  prepared : (c : parts-lts.After-prepare parts-calls (parts-at t) parts.Post parts-Inv parts-μ)
+  prepared : (c : join-parts-lts.After-prepare join-parts-calls (join-parts-at t) join-parts.Post join-parts-Inv join-parts-μ)
       → (let args = c .before .before .before .args in Prepared (args .p) (args .n) (args .m) (args .w .now) (c .prepare .last .1 .1 .1 .0))
   prepared c = let pre = c .before .before .before .pre .1 in prepared-first (pre .0) (pre .1) (c .prepare .ensures)
 
-  parts-part-value-requires : parts-lts.Need-part-value-requires parts-calls (parts-at t) parts.Post parts-Inv parts-μ
-  parts-part-value-requires c κs =
+  join-parts-part-value-requires : join-parts-lts.Need-part-value-requires join-parts-calls (join-parts-at t) join-parts.Post join-parts-Inv join-parts-μ
+  join-parts-part-value-requires c κs =
       let start = c .before .before .before .before .before .before .before in (
         omega (arith, start .pre .0),
         prepared-ready (prepared (c .before .before .before .before)) _ (omega (arith, c .before .top-part .ensures, start .pre .1 .1)),
       )
 
-  parts-add-move-down : parts-lts.Need-add-move-down parts-calls (parts-at t) parts.Post parts-Inv parts-μ
-  parts-add-move-down c = search needs
+  join-parts-add-move-down : join-parts-lts.Need-add-move-down join-parts-calls (join-parts-at t) join-parts.Post join-parts-Inv join-parts-μ
+  join-parts-add-move-down c = search needs
 
-  parts-move-down-requires : parts-lts.Need-move-down-requires parts-calls (parts-at t) parts.Post parts-Inv parts-μ
-  parts-move-down-requires c κs = search needs
+  join-parts-move-down-requires : join-parts-lts.Need-move-down-requires join-parts-calls (join-parts-at t) join-parts.Post join-parts-Inv join-parts-μ
+  join-parts-move-down-requires c κs = search needs
 
   -- the top part is joined
-  top-joined : (c : parts-lts.After-slice-known4 parts-calls (parts-at t) parts.Post parts-Inv parts-μ)
+  top-joined : (c : join-parts-lts.After-slice-known4 join-parts-calls (join-parts-at t) join-parts.Post join-parts-Inv join-parts-μ)
       → (let value = c .before .before .before .before .before .before in
       let top = value .before .before in
       let args = top .before .before .before .before .before .before .args in
@@ -219,33 +219,33 @@ module _ (t : ℕ) where
       let prepare = top .before .before .before in
       parts-first (prepared prepare) (top .top-part .ensures) (value .part-value .ensures) (c .before .before .move-down .ensures)
 
-  parts-loop-holds : parts-lts.Need-loop-holds parts-calls (parts-at t) parts.Post parts-Inv parts-μ
-  parts-loop-holds c = parts-rebased (top-joined c)
+  join-parts-loop-holds : join-parts-lts.Need-loop-holds join-parts-calls (join-parts-at t) join-parts.Post join-parts-Inv join-parts-μ
+  join-parts-loop-holds c = parts-rebased (top-joined c)
 
-  parts-sub-j : parts-lts.Need-sub-j parts-calls (parts-at t) parts.Post parts-Inv parts-μ
-  parts-sub-j c = search needs
+  join-parts-sub-j : join-parts-lts.Need-sub-j join-parts-calls (join-parts-at t) join-parts.Post join-parts-Inv join-parts-μ
+  join-parts-sub-j c = search needs
 
-  parts-part-value-requires-2 : parts-lts.Need-part-value-requires-2 parts-calls (parts-at t) parts.Post parts-Inv parts-μ
-  parts-part-value-requires-2 c κs =
+  join-parts-part-value-requires-2 : join-parts-lts.Need-part-value-requires-2 join-parts-calls (join-parts-at t) join-parts.Post join-parts-Inv join-parts-μ
+  join-parts-part-value-requires-2 c κs =
       let at = c .before .before in
       let start = at .before .before .before .before .before .before .before .before .before .before .before .before .before .before .before in
       let inv = at .loop .inv in
       (omega (arith, start .pre .0), prepared-ready (inv .prepared) _ (omega (arith, inv .index)))
 
-  parts-join-requires : parts-lts.Need-join-requires parts-calls (parts-at t) parts.Post parts-Inv parts-μ
-  parts-join-requires c κs =
+  join-parts-join-requires : join-parts-lts.Need-join-requires join-parts-calls (join-parts-at t) join-parts.Post join-parts-Inv join-parts-μ
+  join-parts-join-requires c κs =
       let part = c .before .before .before in
       parts-room (part .before .before .before .loop .inv) (part .part-value2 .ensures)
 
   -- a turn, from its end back
-  module _ (c : parts-lts.After-slice-known6 parts-calls (parts-at t) parts.Post parts-Inv parts-μ) where
-    abbrev joined : parts-lts.After-join parts-calls (parts-at t) parts.Post parts-Inv parts-μ
+  module _ (c : join-parts-lts.After-slice-known6 join-parts-calls (join-parts-at t) join-parts.Post join-parts-Inv join-parts-μ) where
+    abbrev joined : join-parts-lts.After-join join-parts-calls (join-parts-at t) join-parts.Post join-parts-Inv join-parts-μ
     joined = c .before .before
 
-    abbrev part : parts-lts.After-part-value2 parts-calls (parts-at t) parts.Post parts-Inv parts-μ
+    abbrev part : join-parts-lts.After-part-value2 join-parts-calls (join-parts-at t) join-parts.Post join-parts-Inv join-parts-μ
     part = joined .before .before .before .before
 
-    abbrev at : parts-lts.At-loop parts-calls (parts-at t) parts.Post parts-Inv parts-μ
+    abbrev at : join-parts-lts.At-loop join-parts-calls (join-parts-at t) join-parts.Post join-parts-Inv join-parts-μ
     at = part .before .before .before
 
     down : suc (at .loop .j - 1) ≡ at .loop .j
@@ -254,43 +254,43 @@ module _ (t : ℕ) where
     small : at .loop .weight .places + part .part-value2 .result .places + joined .join .result .places < 2 ^ 64
     small = omega (arith, parts-small (at .loop .inv) down, part .part-value2 .ensures .sum, joined .join .ensures .places)
 
-  parts-plus-requires : parts-lts.Need-plus-requires parts-calls (parts-at t) parts.Post parts-Inv parts-μ
-  parts-plus-requires c κs = omega (arith, small c)
+  join-parts-plus-requires : join-parts-lts.Need-plus-requires join-parts-calls (join-parts-at t) join-parts.Post join-parts-Inv join-parts-μ
+  join-parts-plus-requires c κs = omega (arith, small c)
 
-  parts-plus-requires-2 : parts-lts.Need-plus-requires-2 parts-calls (parts-at t) parts.Post parts-Inv parts-μ
-  parts-plus-requires-2 c κs = omega (arith, small (c .before), c .plus .ensures)
+  join-parts-plus-requires-2 : join-parts-lts.Need-plus-requires-2 join-parts-calls (join-parts-at t) join-parts.Post join-parts-Inv join-parts-μ
+  join-parts-plus-requires-2 c κs = omega (arith, small (c .before), c .plus .ensures)
 
-  parts-loop-less : parts-lts.Need-loop-less parts-calls (parts-at t) parts.Post parts-Inv parts-μ
-  parts-loop-less c = search needs
+  join-parts-loop-less : join-parts-lts.Need-loop-less join-parts-calls (join-parts-at t) join-parts.Post join-parts-Inv join-parts-μ
+  join-parts-loop-less c = search needs
 
-  parts-loop-again : parts-lts.Need-loop-again parts-calls (parts-at t) parts.Post parts-Inv parts-μ
-  parts-loop-again c =
+  join-parts-loop-again : join-parts-lts.Need-loop-again join-parts-calls (join-parts-at t) join-parts.Post join-parts-Inv join-parts-μ
+  join-parts-loop-again c =
       let end = c .before .before in
       rw (c .plus2 .ensures, c .before .plus .ensures)
       (parts-turn (at end .loop .inv) (down end) (part end .part-value2 .ensures) (joined end .join .ensures))
 
-  parts-same-length : parts-lts.Need-same-length parts-calls (parts-at t) parts.Post parts-Inv parts-μ
-  parts-same-length c = search needs
+  join-parts-same-length : join-parts-lts.Need-same-length join-parts-calls (join-parts-at t) join-parts.Post join-parts-Inv join-parts-μ
+  join-parts-same-length c = search needs
 
-  parts-returns : parts-lts.Need-returns parts-calls (parts-at t) parts.Post parts-Inv parts-μ
-  parts-returns c = level-rebased (top-joined (c .before .before) .prepared) (parts-level (c .before .loop .inv) (omega arith))
+  join-parts-returns : join-parts-lts.Need-returns join-parts-calls (join-parts-at t) join-parts.Post join-parts-Inv join-parts-μ
+  join-parts-returns c = level-rebased (top-joined (c .before .before) .prepared) (parts-level (c .before .loop .inv) (omega arith))
 
-pub +level+part-value+parts-spec : {M : Type 1} → statement M
-+level+part-value+parts-spec =
-    close μ-level μ-part-value μ-parts
+pub +join-parts+level+part-value-spec : {M : Type 1} → statement M
++join-parts+level+part-value-spec =
+    close μ-join-parts μ-level μ-part-value
+    (λ t. join-parts-lts.spec (join-parts-calls t) (join-parts-at t) join-parts.Post (join-parts-Inv t) (join-parts-μ t)
+    (join-parts-add-value t) (join-parts-prepare-requires t) (join-parts-top-part-requires t)
+    (join-parts-part-value-requires t) (join-parts-add-move-down t) (join-parts-move-down-requires t)
+    (join-parts-loop-holds t) (join-parts-sub-j t) (join-parts-part-value-requires-2 t)
+    (join-parts-join-requires t) (join-parts-plus-requires t) (join-parts-plus-requires-2 t)
+    (join-parts-loop-less t) (join-parts-loop-again t) (join-parts-same-length t)
+    (join-parts-returns t))
     (λ t. level-lts.spec (level-calls t) (level-at t) level.Post
     (level-constant-requires t) (level-none-requires t) (level-same-length t) (level-returns t)
-    (level-parts-requires t) (level-same-length-2 t) (level-returns-2 t))
+    (level-join-parts-requires t) (level-same-length-2 t) (level-returns-2 t))
     (λ t. part-value-lts.spec (part-value-calls t) (part-value-at t) part-value.Post
     (part-value-add-next t) (part-value-add-next-2 t) (part-value-add-rest t)
     (part-value-rounded-up-requires t) (part-value-add-at t) (part-value-part-requires t)
     (part-value-mul-level t) (part-value-sub-level t) (part-value-part-level-start t)
     (part-value-part-level-end t) (part-value-level-requires t) (part-value-add-spread t)
     (part-value-spread-requires t) (part-value-same-length t) (part-value-returns t))
-    (λ t. parts-lts.spec (parts-calls t) (parts-at t) parts.Post (parts-Inv t) (parts-μ t)
-    (parts-add-value t) (parts-prepare-requires t) (parts-top-part-requires t)
-    (parts-part-value-requires t) (parts-add-move-down t) (parts-move-down-requires t)
-    (parts-loop-holds t) (parts-sub-j t) (parts-part-value-requires-2 t)
-    (parts-join-requires t) (parts-plus-requires t) (parts-plus-requires-2 t)
-    (parts-loop-less t) (parts-loop-again t) (parts-same-length t)
-    (parts-returns t))

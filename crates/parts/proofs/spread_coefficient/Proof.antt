@@ -1,10 +1,10 @@
--- `bernstein::spread_coefficient` meets its contract. Assumes nothing.
+-- `parts::spread_coefficient` meets its contract. Assumes nothing.
 use borrow.Author.Needs.{needs}
 use borrow.Author.Tests.{eq-eqb, ne-eqb}
 use mathlib.Core.Path.{_∙_}
 use Rattle.definition.specs.Bernstein.{spread}
-use Rattle.bernstein.proofs.spread_coefficient.Statement.{statement}
-use Rattle.bernstein.proofs.spread_coefficient.Tie as tie
+use Rattle.parts.proofs.spread_coefficient.Statement.{statement}
+use Rattle.parts.proofs.spread_coefficient.Tie as tie
 
 rem-if1 : tie.Need-rem-if1
 rem-if1 c = search needs
