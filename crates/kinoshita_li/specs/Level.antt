@@ -27,7 +27,7 @@ use Rattle.product.specs.Planes.{held}
 use Rattle.product.specs.Segments.{segment, segment-segment}
 use Rattle.product.specs.declared.Rows.{Rows}
 use Rattle.route.specs.Within.{Within, rest-back, rest-lent, within-rest, within-sets, within-trans, within-wider, segment-rest, segment-sets, segment-within}
-use Rattle.bivariate.specs.Division.{Divided, length-quotient}
+use Rattle.division.specs.Quotient.{Divided, length-quotient}
 use Rattle.bivariate.specs.Exact.{planeAt-column, window-segment}
 use Rattle.kinoshita_li.specs.Graeffe.{Expanded, Graeffe, Parts, parts-length}
 use Rattle.kinoshita_li.specs.Layout.{Bounded, layoutOf}

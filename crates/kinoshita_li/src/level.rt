@@ -1,6 +1,4 @@
 // The levels: each forms the denominator of the next one at half the order, and its result from the result of the next one.
-use bivariate::division;
-use bivariate::rows;
 use product::Rows;
 use product::Weight;
 ghost use mathlib.Core.Path.{_≡_};
@@ -88,9 +86,9 @@ fn graeffe(p: u32, r: usize, w: &mut [u32], s: Layout) -> Weight
         at: 0,
         count: b.count,
     };
-    rows::opposite(p, r, w, a, b.at);
+    bivariate::opposite(p, r, w, a, b.at);
     let places = product::multiply_rows(p, r, w, a, b, 0, x);
-    rows::even_part(r, s.half, w, x, s.rest);
+    bivariate::even_part(r, s.half, w, x, s.rest);
     places
 }
 
@@ -103,7 +101,7 @@ fn expand(p: u32, r: usize, w: &mut [u32], s: Layout) -> Weight
     let factor = s.opposite;
     let x = s.product;
     let t = s.result;
-    rows::squared(s.half, r, w, u, x.at);
+    bivariate::squared(s.half, r, w, u, x.at);
     product::multiply_rows(
         p,
         r,
@@ -127,7 +125,7 @@ fn last(p: u32, q: usize, d: usize, f: &[u32], w: &mut [u32])
     let t = q + 1;
     division::numerator(f, w, t);
     division::divide(p, m, t, w);
-    rows::window(1, w, Rows { at: t, count: m }, d);
+    bivariate::window(1, w, Rows { at: t, count: m }, d);
 }
 
 // Leaves the powers of y from d to m - 1 of P / Q, below x^r, behind the Q in the first q + 1 rows of r places.
