@@ -57,7 +57,13 @@ pub fn divide(p: u32, m: usize, count: usize, w: &mut [u32])
     let mut k = 0;
     while k < m {
         let c = w[count + k];
-        w[count + k] = product::product_coefficient(p, c, &w[count..behind], &w[behind..end], k);
+        w[count + k] = convolution::product_coefficient(
+            p,
+            c,
+            &w[count..behind],
+            &w[behind..end],
+            k,
+        );
         k += 1;
     }
 }

@@ -1,10 +1,7 @@
 // Cut products modulo p, on parts of one lent buffer. Each gives back the number of places that it is cut to, as a weight, which only this crate
 // makes: a route's weight can then be nothing but a sum of what products gave back.
 ghost use mathlib.Core.Path.{_≡_};
-ghost use Prim.Native.Nat.{_+_, _*_, _%_, _<_, _^_};
-ghost use lib.ListN.{length};
-ghost use Rattle.definition.specs.Lists.{coefficient};
-ghost use Rattle.definition.specs.Substitution.{product};
+ghost use Prim.Native.Nat.{_+_, _*_, _<_, _^_};
 ghost use Rattle.product.specs.Double.{MultipliedRow, MultipliedRows, RowOperands};
 ghost use Rattle.product.specs.Single.{Multiplied, MultipliedAdd, Operands};
 
@@ -45,40 +42,6 @@ impl Weight {
     }
 }
 
-// A number as a wider one.
-fn wide(x: u32) -> u64
-    ensures { λ r. ⌜ r ≡ x ⌝ }
-{
-    x as u64
-}
-
-// The remainder of 2^32 high + low modulo p, by two divisions.
-fn remainder(p: u32, high: u64, low: u64) -> u32
-    requires { ⌜ (0 < p) × (high < 2 ^ 63) ⌝ }
-    ensures { λ r. ⌜ r ≡ (2 ^ 32 * high + low) % p ⌝ }
-{
-    let m = wide(p);
-    let top = (high + low / 4294967296) % m;
-    ((top * 4294967296 + low % 4294967296) % m) as u32
-}
-
-// Coefficient k of c + x y modulo p. The sum is exact, its low and high halves kept apart, and the remainder is taken once.
-pub fn product_coefficient(p: u32, c: u32, x: &[u32], y: &[u32], k: usize) -> u32
-    requires { ⌜ (0 < p) × (k < length (now x)) × (k < length (now y)) × (k < 2 ^ 30) ⌝ }
-    ensures { λ r. ⌜ r ≡ (c + product (coefficient (now (x .entry))) (coefficient (now (y .entry))) k) % p ⌝ }
-{
-    let mut low = wide(c);
-    let mut high: u64 = 0;
-    let mut i = 0;
-    while i <= k {
-        let z = wide(x[i]) * wide(y[k - i]);
-        low += z % 4294967296;
-        high += z / 4294967296;
-        i += 1;
-    }
-    remainder(p, high, low)
-}
-
 // The n places from t on become they + A B modulo p, cut to n places, where A and B are the n places from a and from b on.
 pub fn multiply_add(p: u32, n: usize, w: &mut [u32], a: usize, b: usize, t: usize) -> Weight
     requires { ⌜ Operands p n a b t (now w) ⌝ }
@@ -89,7 +52,7 @@ pub fn multiply_add(p: u32, n: usize, w: &mut [u32], a: usize, b: usize, t: usiz
     let mut k = 0;
     while k < n {
         let c = w[t + k];
-        w[t + k] = product_coefficient(p, c, &w[a..end_a], &w[b..end_b], k);
+        w[t + k] = convolution::product_coefficient(p, c, &w[a..end_a], &w[b..end_b], k);
         k += 1;
     }
     Weight { places: n as u64 }

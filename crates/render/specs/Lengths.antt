@@ -16,7 +16,7 @@ use lib.Seq.{length-take-le, take-suc}
 use mathlib.Core.List.{List, [], _∷_, _++_, append-assoc}
 use mathlib.Core.Path.{_≡_, refl, sym}
 use Rattle.definition.specs.Text.{accepted, decimal, noLead, okLead, refused, rendered, space, spaced}
-use Rattle.render.specs.Decimal.{decimal-length, long-length, word-length}
+use Rattle.decimal.specs.Digits.{decimal-length, long-length, word-length}
 
 pub spaced-first : (l : List ℕ) → 0 < length l → spaced (take 1 l) ≡ decimal (getD l 0 0)
 unfolding spaced

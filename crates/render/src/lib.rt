@@ -1,13 +1,13 @@
 // The call render: the printed answer, measured and then written into the lent text buffer.
 ghost use lib.ListN.{length};
-ghost use mathlib.Core.List.{[], _∷_, _++_};
+ghost use mathlib.Core.List.{_∷_};
 ghost use mathlib.Core.Path.{_≡_};
 ghost use Prim.Native.Nat.{_+_, _<_, _≤_};
 ghost use Rattle.definition.specs.Calls.{Render};
 ghost use Rattle.definition.specs.Refusal.{limit};
 ghost use Rattle.definition.specs.Text.{accepted, decimal, refused, rendered, space, spaced};
 ghost use Rattle.refusal.specs.Tests.{Passed, listTests};
-ghost use Rattle.render.specs.Writing.{Written};
+ghost use Rattle.decimal.specs.Writing.{Written};
 
 // What rendering answers: the number, and the count of bytes written (0 where it is refused).
 #[repr(C)]
@@ -16,21 +16,11 @@ pub struct Answer {
     pub count: usize,
 }
 
-// The count of digits of v.
-fn decimal_places(v: u64) -> usize
-    ensures { λ r. ⌜ r ≡ length (decimal v) ⌝ }
-{
-    if v < 10 {
-        return 1;
-    }
-    decimal_places(v / 10) + 1
-}
-
 // The count of bytes of one more coefficient, with the space before it.
 fn next_places(coefficient: u32) -> usize
     ensures { λ r. ⌜ r ≡ length (space ∷ decimal coefficient) ⌝ }
 {
-    1 + decimal_places(coefficient as u64)
+    1 + decimal::decimal_places(coefficient as u64)
 }
 
 // The count of bytes of the coefficients with single spaces.
@@ -38,7 +28,7 @@ fn spaced_places(list: &[u32]) -> usize
     requires { ⌜ (0 < length (now list)) × (length (now list) ≤ limit) ⌝ }
     ensures { λ r. ⌜ r ≡ length (spaced (now (list .entry))) ⌝ }
 {
-    let mut places = decimal_places(list[0] as u64);
+    let mut places = decimal::decimal_places(list[0] as u64);
     let mut i = 1;
     while i < list.len() {
         places += next_places(list[i]);
@@ -52,14 +42,14 @@ fn accepted_places(n: usize, weight: u64, list: &[u32]) -> usize
     requires { ⌜ (0 < length (now list)) × (length (now list) ≤ limit) ⌝ }
     ensures { λ r. ⌜ r ≡ length (accepted n weight (now (list .entry))) ⌝ }
 {
-    6 + decimal_places(n as u64) + decimal_places(weight) + spaced_places(list)
+    6 + decimal::decimal_places(n as u64) + decimal::decimal_places(weight) + spaced_places(list)
 }
 
 // The count of bytes of a refusal.
 fn refused_places(number: u32) -> usize
     ensures { λ r. ⌜ r ≡ length (refused number) ⌝ }
 {
-    4 + decimal_places(number as u64)
+    4 + decimal::decimal_places(number as u64)
 }
 
 // The count of bytes of the answer, where its order and its list are not refused.
@@ -76,55 +66,12 @@ fn rendered_places(number: u32, n: usize, weight: u64, list: &[u32]) -> usize
     accepted_places(n, weight, list)
 }
 
-// Writes the bytes from place `at` on. Like every routine below it returns the place after the last that it wrote.
-fn write_bytes(bytes: &[u8], text: &mut [u8], at: usize) -> usize
-    requires { ⌜ at + length (now bytes) ≤ length (now text) ⌝ }
-    ensures { λ r. ⌜ Written (now (bytes .entry)) at (now (text .entry)) (now (text .exit)) r ⌝ }
-{
-    let mut i = 0;
-    while i < bytes.len() {
-        text[at + i] = bytes[i];
-        i += 1;
-    }
-    at + i
-}
-
-// Writes one digit.
-fn write_digit(digit: u64, text: &mut [u8], at: usize) -> usize
-    requires { ⌜ (digit < 10) × (at < length (now text)) ⌝ }
-    ensures { λ r. ⌜ Written ((48 + digit) ∷ []) at (now (text .entry)) (now (text .exit)) r ⌝ }
-{
-    text[at] = 48 + digit as u8;
-    at + 1
-}
-
-// Writes the digits of v.
-fn write_decimal(v: u64, text: &mut [u8], at: usize) -> usize
-    requires { ⌜ at + length (decimal v) ≤ length (now text) ⌝ }
-    ensures { λ r. ⌜ Written (decimal v) at (now (text .entry)) (now (text .exit)) r ⌝ }
-{
-    if v < 10 {
-        return write_digit(v, text, at);
-    }
-    let last = write_decimal(v / 10, text, at);
-    write_digit(v % 10, text, last)
-}
-
-// Writes a lead and the digits of v.
-fn write_after(lead: &[u8], v: u64, text: &mut [u8], at: usize) -> usize
-    requires { ⌜ at + length (now lead ++ decimal v) ≤ length (now text) ⌝ }
-    ensures { λ r. ⌜ Written (now (lead .entry) ++ decimal v) at (now (text .entry)) (now (text .exit)) r ⌝ }
-{
-    let next = write_bytes(lead, text, at);
-    write_decimal(v, text, next)
-}
-
-// Writes one more coefficient, with the space before it.
+// Writes one more coefficient, with the space before it. Like every routine below it returns the place after the last that it wrote.
 fn write_next(coefficient: u32, text: &mut [u8], at: usize) -> usize
     requires { ⌜ at + length (space ∷ decimal coefficient) ≤ length (now text) ⌝ }
     ensures { λ r. ⌜ Written (space ∷ decimal coefficient) at (now (text .entry)) (now (text .exit)) r ⌝ }
 {
-    write_after(b" ", coefficient as u64, text, at)
+    decimal::write_after(b" ", coefficient as u64, text, at)
 }
 
 // Writes the coefficients with single spaces.
@@ -132,7 +79,7 @@ fn write_spaced(list: &[u32], text: &mut [u8], at: usize) -> usize
     requires { ⌜ (0 < length (now list)) × (at + length (spaced (now list)) ≤ length (now text)) ⌝ }
     ensures { λ r. ⌜ Written (spaced (now (list .entry))) at (now (text .entry)) (now (text .exit)) r ⌝ }
 {
-    let mut next = write_decimal(list[0] as u64, text, at);
+    let mut next = decimal::write_decimal(list[0] as u64, text, at);
     let mut i = 1;
     while i < list.len() {
         next = write_next(list[i], text, next);
@@ -146,11 +93,11 @@ fn write_accepted(n: usize, weight: u64, list: &[u32], text: &mut [u8]) -> usize
     requires { ⌜ (0 < length (now list)) × (length (accepted n weight (now list)) ≤ length (now text)) ⌝ }
     ensures { λ r. ⌜ Written (accepted n weight (now (list .entry))) 0 (now (text .entry)) (now (text .exit)) r ⌝ }
 {
-    let next = write_after(b"ok ", n as u64, text, 0);
-    let next = write_after(b" ", weight, text, next);
-    let next = write_bytes(b"\n", text, next);
+    let next = decimal::write_after(b"ok ", n as u64, text, 0);
+    let next = decimal::write_after(b" ", weight, text, next);
+    let next = decimal::write_bytes(b"\n", text, next);
     let next = write_spaced(list, text, next);
-    write_bytes(b"\n", text, next)
+    decimal::write_bytes(b"\n", text, next)
 }
 
 // Writes a refusal.
@@ -158,8 +105,8 @@ fn write_refused(number: u32, text: &mut [u8]) -> usize
     requires { ⌜ length (refused number) ≤ length (now text) ⌝ }
     ensures { λ r. ⌜ Written (refused number) 0 (now (text .entry)) (now (text .exit)) r ⌝ }
 {
-    let next = write_after(b"no ", number as u64, text, 0);
-    write_bytes(b"\n", text, next)
+    let next = decimal::write_after(b"no ", number as u64, text, 0);
+    decimal::write_bytes(b"\n", text, next)
 }
 
 // Writes the answer.

@@ -2,7 +2,7 @@
 use borrow.Author.Needs.{needs}
 use native.Mathlib.Omega.{arith}
 use Prim.Native.Nat.{_+_, _≤_}
-use Rattle.render.specs.Decimal.{long-length}
+use Rattle.decimal.specs.Digits.{long-length}
 use Rattle.render.specs.Lengths.{length-accepted, spaced-length}
 use Rattle.render.proofs.accepted_places.Statement.{statement}
 use Rattle.render.proofs.accepted_places.Tie as tie

@@ -1,7 +1,7 @@
 -- `render::next_places` meets its contract. Assumes nothing.
 use borrow.Author.Needs.{needs}
 use native.Mathlib.Omega.{arith}
-use Rattle.render.specs.Decimal.{word-length}
+use Rattle.decimal.specs.Digits.{word-length}
 use Rattle.render.proofs.next_places.Statement.{statement}
 use Rattle.render.proofs.next_places.Tie as tie
 

@@ -1,7 +1,7 @@
 -- `render::refused_places` meets its contract. Assumes nothing.
 use borrow.Author.Needs.{needs}
 use native.Mathlib.Omega.{arith}
-use Rattle.render.specs.Decimal.{word-length}
+use Rattle.decimal.specs.Digits.{word-length}
 use Rattle.render.specs.Lengths.{length-refused}
 use Rattle.render.proofs.refused_places.Statement.{statement}
 use Rattle.render.proofs.refused_places.Tie as tie

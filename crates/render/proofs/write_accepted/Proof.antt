@@ -6,7 +6,7 @@ use lib.ListN.{length, length-append}
 use mathlib.Core.List.{List, [], _∷_, _++_, append-assoc}
 use Rattle.definition.specs.Text.{accepted, decimal, lineEnd, okLead, space, spaced}
 use Rattle.render.specs.Lengths.{length-accepted}
-use Rattle.render.specs.Writing.{Written, room, written-append}
+use Rattle.decimal.specs.Writing.{Written, room, written-append}
 use Rattle.render.proofs.write_accepted.Statement.{statement}
 use Rattle.render.proofs.write_accepted.Tie as tie
 

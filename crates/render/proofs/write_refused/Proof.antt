@@ -5,7 +5,7 @@ use native.Mathlib.Nat.{zero-add}
 use mathlib.Core.List.{[], _∷_}
 use Rattle.definition.specs.Text.{decimal, lineEnd, noLead, refused}
 use Rattle.render.specs.Lengths.{length-refused}
-use Rattle.render.specs.Writing.{room, written-append}
+use Rattle.decimal.specs.Writing.{room, written-append}
 use Rattle.render.proofs.write_refused.Statement.{statement}
 use Rattle.render.proofs.write_refused.Tie as tie
 

@@ -8,7 +8,7 @@ use mathlib.Core.List.{List, _∷_}
 use mathlib.Core.Path.{_≡_, refl, ap}
 use Rattle.definition.specs.Text.{decimal, space, spaced}
 use Rattle.render.specs.Lengths.{spaced-first, spaced-next, spaced-part}
-use Rattle.render.specs.Writing.{Written, room, written-append}
+use Rattle.decimal.specs.Writing.{Written, room, written-append}
 use Rattle.render.proofs.write_spaced.Statement.{statement}
 use Rattle.render.proofs.write_spaced.Tie as tie
 

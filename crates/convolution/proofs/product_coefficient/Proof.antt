@@ -1,13 +1,13 @@
--- `product::product_coefficient` meets its contract: the two halves hold c and the terms summed so far. Assumes nothing.
+-- `convolution::product_coefficient` meets its contract: the two halves hold c and the terms summed so far. Assumes nothing.
 use borrow.Author.Needs.{needs}
 use native.Mathlib.Omega.{arith}
 use Prim.Native.Nat.{ℕ, suc, _+_, _*_, _-_, _≤_, _^_}
 use mathlib.Core.Path.{_≡_, _∙_}
 use Rattle.definition.specs.Lists.{coefficient}
 use Rattle.definition.specs.Substitution.{product, productTerm}
-use Rattle.product.specs.Halves.{Halves, small-product, halves-first, halves-next, halves-total, halves-low, halves-high}
-use Rattle.product.proofs.product_coefficient.Statement.{statement}
-use Rattle.product.proofs.product_coefficient.Tie as tie
+use Rattle.convolution.specs.Halves.{Halves, small-product, halves-first, halves-next, halves-total, halves-low, halves-high}
+use Rattle.convolution.proofs.product_coefficient.Statement.{statement}
+use Rattle.convolution.proofs.product_coefficient.Tie as tie
 
 abbrev Inv-loop : tie.InvT-loop
 Inv-loop p c x y k low₀ high₀ i₀ low high i =

@@ -1,11 +1,11 @@
--- `product::remainder` meets its contract: a remainder modulo p has 32 bits, so that every step fits 64 bits. Assumes nothing.
+-- `convolution::remainder` meets its contract: a remainder modulo p has 32 bits, so that every step fits 64 bits. Assumes nothing.
 use borrow.Author.Needs.{needs}
 use native.Mathlib.Nat.{mod-lt}
 use native.Mathlib.Omega.{arith}
 use Prim.Native.Nat.{ℕ, _+_, _/_, _%_, _<_, _^_}
-use Rattle.product.specs.Halves.{carried}
-use Rattle.product.proofs.remainder.Statement.{statement}
-use Rattle.product.proofs.remainder.Tie as tie
+use Rattle.convolution.specs.Halves.{carried}
+use Rattle.convolution.proofs.remainder.Statement.{statement}
+use Rattle.convolution.proofs.remainder.Tie as tie
 
 below : (c : tie.After-wide) (x : ℕ) → x % c .wide .result < 2 ^ 32
 below c x = omega (arith, mod-lt x {m = c .wide .result} (omega arith))

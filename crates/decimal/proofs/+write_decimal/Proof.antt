@@ -1,4 +1,4 @@
--- `render::write_decimal` meets its contract. The measure is the number. Assumes nothing.
+-- `decimal::write_decimal` meets its contract. The measure is the number. Assumes nothing.
 use borrow.Author.Needs.{needs}
 use native.Mathlib.Omega.{arith}
 use Prim.Native.Nat.{ℕ, _+_, _/_, _%_, _<_}
@@ -8,14 +8,14 @@ use lib.ListN.{length, length-append}
 use mathlib.Core.List.{[], _∷_}
 use mathlib.Core.Path.{ap}
 use Rattle.definition.specs.Text.{decimal}
-use Rattle.render.specs.Decimal.{decimal-digit, decimal-next}
-use Rattle.render.specs.Writing.{room, written-append}
-use Rattle.render.proofs.write_decimal.Reads as reads
-use Rattle.render.proofs.write_decimal.Kinds as kinds
-use Rattle.render.proofs.+write_decimal.Lts-write_decimal as lts
-use Rattle.render.proofs.write_digit.Reads as digit-reads
-use Rattle.render.proofs.+write_decimal.{statement}
-use Rattle.render.proofs.+write_decimal.Tie.{close}
+use Rattle.decimal.specs.Digits.{decimal-digit, decimal-next}
+use Rattle.decimal.specs.Writing.{room, written-append}
+use Rattle.decimal.proofs.write_decimal.Reads as reads
+use Rattle.decimal.proofs.write_decimal.Kinds as kinds
+use Rattle.decimal.proofs.+write_decimal.Lts-write_decimal as lts
+use Rattle.decimal.proofs.write_digit.Reads as digit-reads
+use Rattle.decimal.proofs.+write_decimal.{statement}
+use Rattle.decimal.proofs.+write_decimal.Tie.{close}
 
 -- the number
 abbrev μ : Measures 1 kinds.ps ℕ

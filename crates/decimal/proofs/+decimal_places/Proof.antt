@@ -1,15 +1,15 @@
--- `render::decimal_places` meets its contract. The measure is the number. Assumes nothing.
+-- `decimal::decimal_places` meets its contract. The measure is the number. Assumes nothing.
 use native.Mathlib.Omega.{arith}
 use Prim.Native.Nat.{ℕ, _/_, _<_}
 use borrow.Fn.Kinds.{In}
 use borrow.Fn.PlainCycle.{Measures, is, falls, and}
 use lib.ListN.{length-append}
-use Rattle.render.specs.Decimal.{decimal-digit, decimal-next, long-length}
-use Rattle.render.proofs.decimal_places.Reads as reads
-use Rattle.render.proofs.decimal_places.Kinds as kinds
-use Rattle.render.proofs.+decimal_places.Lts-decimal_places as lts
-use Rattle.render.proofs.+decimal_places.{statement}
-use Rattle.render.proofs.+decimal_places.Tie.{close}
+use Rattle.decimal.specs.Digits.{decimal-digit, decimal-next, long-length}
+use Rattle.decimal.proofs.decimal_places.Reads as reads
+use Rattle.decimal.proofs.decimal_places.Kinds as kinds
+use Rattle.decimal.proofs.+decimal_places.Lts-decimal_places as lts
+use Rattle.decimal.proofs.+decimal_places.{statement}
+use Rattle.decimal.proofs.+decimal_places.Tie.{close}
 
 -- the number
 abbrev μ : Measures 0 kinds.ps ℕ

@@ -1,4 +1,4 @@
--- `render::write_bytes` meets its contract: after i turns the first i bytes are written. Assumes nothing.
+-- `decimal::write_bytes` meets its contract: after i turns the first i bytes are written. Assumes nothing.
 use borrow.Author.Needs.{needs}
 use native.Mathlib.Omega.{arith}
 use Prim.Native.Nat.{_-_, _≤_}
@@ -6,8 +6,8 @@ use mathlib.Core.Path.{_≡_, _∙_}
 use lib.ListN.{length, take}
 use lib.Seq.{sets, take-length}
 use Rattle.buffer.specs.Written.{sets-take}
-use Rattle.render.proofs.write_bytes.Statement.{statement}
-use Rattle.render.proofs.write_bytes.Tie as tie
+use Rattle.decimal.proofs.write_bytes.Statement.{statement}
+use Rattle.decimal.proofs.write_bytes.Tie as tie
 
 abbrev Inv-loop : tie.InvT-loop
 Inv-loop bytes text₀ at i₀ text i = (i ≤ length bytes) × (length text ≡ length text₀) × (text ≡ sets text₀ at (take i bytes))

@@ -1,11 +1,11 @@
--- `render::write_after` meets its contract. Assumes nothing.
+-- `decimal::write_after` meets its contract. Assumes nothing.
 use borrow.Author.Needs.{needs}
 use native.Mathlib.Omega.{arith}
 use lib.ListN.{length-append}
 use Rattle.definition.specs.Text.{decimal}
-use Rattle.render.specs.Writing.{room, written-append}
-use Rattle.render.proofs.write_after.Statement.{statement}
-use Rattle.render.proofs.write_after.Tie as tie
+use Rattle.decimal.specs.Writing.{room, written-append}
+use Rattle.decimal.proofs.write_after.Statement.{statement}
+use Rattle.decimal.proofs.write_after.Tie as tie
 
 write-bytes-requires : tie.Need-write-bytes-requires
 write-bytes-requires c κs =
