@@ -1,76 +1,74 @@
-"""The gate: each step is a target of the Makefile, in the order below, and the first that fails ends it.
+"""The gate: each step is a target of the Makefile, and the first that fails ends it.
 
-The proofs come early, since the tests after them link what was proved. Before the last line stand the seconds of each step, and the crates
-and the must-fail edits that took longest. The last line adds up: what 'rt ci' counted (crates, must-fail edits, programs), and one for each
-other step.
+The proofs come early, since the tests after them link what was proved. Those tests go in two lanes side by side: the first has every step that
+calls the prover. Before the last line stand the seconds of each step, and the crates and the must-fail edits that took longest. The last line
+adds up: what 'rt ci' counted (crates, must-fail edits, programs), and one for each other step.
 """
 
+import concurrent.futures
 import re
 import subprocess
 import sys
 import time
 
 PROOFS = "proofs"
-STEPS = [
-    "formatted",
-    "trace",
-    "second",
-    PROOFS,
-    "wrong-definitions",
-    "wrong-weights",
-    "linked",
-    "c-interface",
-    "installed",
-    "joiner",
-    "job-tool",
-]
+FIRST = ["formatted", "trace", "second", PROOFS, "library"]
+LANES = [["wrong-definitions", "wrong-weights", "linked", "job-tool"], ["c-interface", "installed", "joiner"]]
 SLOWEST = 5
 CRATE = re.compile(r"rt: (\w+) proved \((\d+) s\)")
 EDIT = re.compile(r"rt: must-fail (\S+): refused.*?(\d+) s\)")
 
 
-def run(step):
-    """Runs the step and shows what it prints; whether it succeeded, and the lines."""
-    lines = []
-    process = subprocess.Popen(["make", "--no-print-directory", step], stdout=subprocess.PIPE, text=True)
-    for line in process.stdout:
-        print(line, end="", flush=True)
-        lines.append(line.strip())
-    return process.wait() == 0, [line for line in lines if line]
+class Step:
+    """A step that was run: what it printed, its seconds, and how many of its parts passed and failed."""
+
+    def __init__(self, name, shown):
+        begin = time.monotonic()
+        self.name, self.lines = name, []
+        process = subprocess.Popen(["make", "--no-print-directory", name], stdout=subprocess.PIPE, stderr=subprocess.STDOUT, text=True)
+        for line in process.stdout:
+            self.lines.append(line.rstrip())
+            if shown:
+                print(line, end="", flush=True)
+        succeeded = process.wait() == 0
+        self.seconds = time.monotonic() - begin
+        self.passed, self.failed = int(succeeded), int(not succeeded)
+        if name == PROOFS:
+            found = re.fullmatch(r"(\d+) passed, (\d+) failed", self.lines[-1] if self.lines else "")
+            self.passed, self.failed = (int(found[1]), max(int(found[2]), self.failed)) if found else (0, 1)
 
 
-def counts(step, succeeded, lines):
-    """How many parts of the step passed and failed."""
-    if step == PROOFS:
-        found = re.fullmatch(r"(\d+) passed, (\d+) failed", lines[-1]) if lines else None
-        if not found:
-            return 0, 1
-        passed, failed = map(int, found.groups())
-        return passed, max(failed, int(not succeeded))
-    return int(succeeded), int(not succeeded)
+def lane(names, shown):
+    """Runs the steps, up to the first that fails; shows what each prints as it comes, or whole when it has ended."""
+    steps = []
+    for name in names:
+        if shown:
+            print(f"== {name}", flush=True)
+        steps.append(Step(name, shown))
+        if not shown:
+            print("\n".join([f"== {name}", *steps[-1].lines]), flush=True)
+        if steps[-1].failed:
+            break
+    return steps
 
 
-def slowest(pattern, lines):
-    """What a line of the proofs names with its seconds, the longest first."""
+def slowest(pattern, steps):
+    """What the lines of the proofs name with its seconds, the longest first."""
+    lines = [line for step in steps if step.name == PROOFS for line in step.lines]
     found = [(int(match[2]), match[1]) for match in map(pattern.match, lines) if match]
     return ", ".join(f"{name} {seconds} s" for seconds, name in sorted(found, reverse=True)[:SLOWEST])
 
 
 def main():
-    passed, seconds, proved = 0, [], []
-    for step in STEPS:
-        print(f"== {step}", flush=True)
-        begin = time.monotonic()
-        succeeded, lines = run(step)
-        seconds.append(f"{step} {time.monotonic() - begin:.0f} s")
-        passed_here, failed = counts(step, succeeded, lines)
-        passed += passed_here
-        proved = lines if step == PROOFS else proved
-        if failed:
-            break
-    print(f"== steps: {', '.join(seconds)}")
-    print(f"== slowest crates: {slowest(CRATE, proved)}")
-    print(f"== slowest edits: {slowest(EDIT, proved)}")
+    steps = lane(FIRST, True)
+    if not steps[-1].failed:
+        with concurrent.futures.ThreadPoolExecutor() as pool:
+            for more in pool.map(lambda names: lane(names, False), LANES):
+                steps += more
+    passed, failed = sum(step.passed for step in steps), sum(step.failed for step in steps)
+    print(f"== steps: {', '.join(f'{step.name} {step.seconds:.0f} s' for step in steps)}")
+    print(f"== slowest crates: {slowest(CRATE, steps)}")
+    print(f"== slowest edits: {slowest(EDIT, steps)}")
     print(f"{passed} passed, {failed} failed")
     return int(failed > 0)
 

@@ -48,7 +48,7 @@ work-places-requires : tie.Need-work-places-requires
 work-places-requires c κs =
     let called = c .before .before .before .before .before in
     let known = within (called .before .before .before) in
-    (known .field .order, known .inner)
+    (omega (arith, known .field .order), known .inner)
 
 clear-requires : tie.Need-clear-requires
 clear-requires c κs =
