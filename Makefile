@@ -68,10 +68,9 @@ trace: tools $(DEFINITIONS)
 	python3 -B tests/trace/contracts.py
 	python3 -B tests/trace/dependencies.py
 
-# from nothing: every crate is proved, every must-fail edit refused, every program run on its stored input. rt starts so many at a time and
-# waits for all of them; on two cores four leave less idle than two
+# from nothing: every crate is proved, every must-fail edit refused, every program run on its stored input
 proofs: toolchain
-	RT_JOBS=$${RT_JOBS:-4} rt ci
+	rt ci
 
 # the tool that writes and shows job files, and what it says of a file against the job program
 job-tool: tools program
