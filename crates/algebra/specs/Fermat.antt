@@ -3,21 +3,19 @@
 --   residues-domain     residues modulo a prime have no zero divisors
 --   fermat-residue      a^p is a, for a residue a
 --   fermat              the same of natural numbers: a^p and a have the same remainder
---   fermat-one          a^(p - 1) has remainder 1 where p does not divide a
 --   inverse             a times a^(p - 2) has remainder 1 where p does not divide a
---   inverse-unique      two inverses of a below p are equal, whether or not p is prime
 --   residue-inverse     the inverse of a residue that is not 𝟘
 use Prim.Native.Nat.{ℕ, suc, _-_, _*_, _%_, _^_, _<_, _∣_}
 use mathlib.Core.Logic.{_≢_}
-use mathlib.Core.Path.{_≡_, _∙_, subst, subst₂, _≡⟨_⟩_, _∎}
-use native.Mathlib.Nat.{dvd-of-mod-eq-zero, mod-eq-of-lt, mod-eq-zero-of-dvd, mul-assoc, mul-comm, mul-one, one-mul, pow-succ'}
+use mathlib.Core.Path.{_≡_, _∙_, subst, subst₂}
+use native.Mathlib.Nat.{dvd-of-mod-eq-zero, mod-eq-of-lt, mod-eq-zero-of-dvd}
 use native.Mathlib.Omega.{arith}
 use Rattle.algebra.specs.Domain.{NoZeroDivisors, ⊗-cancel}
 use Rattle.algebra.specs.Frobenius.{frobenius}
 use Rattle.algebra.specs.Natural.{map-natural}
 use Rattle.algebra.specs.Power.{power, power-suc}
 use Rattle.algebra.specs.Prime.{euclid, prime-positive}
-use Rattle.algebra.specs.Remainder.{mod-mul-mod, mul-mod-mod}
+use Rattle.algebra.specs.Remainder.{mul-mod-mod}
 use Rattle.algebra.specs.Residue.{
   Residue,
   residue,
@@ -68,15 +66,3 @@ module _ {p : ℕ} (P : Prime p) where
       (residue-equal l (a * a ^ (p - 2)) 1 .0
       (rw (residue-*, residue-power, residue-1) (residue-inverse l P (residue l a) (λ e. z (residue-zero l a .0 e))))
       ∙ mod-eq-of-lt (P .above-one))
-
-  pub fermat-one : (a : ℕ) → a % p ≢ 0 → (a ^ (p - 1)) % p ≡ 1
-  fermat-one a z =
-      let e : p - 1 ≡ suc (p - 2) = omega (arith, P .above-one) in
-      rw (e, pow-succ', ← mul-mod-mod a (a ^ (p - 2)) p) (inverse a z)
-
-pub inverse-unique : {p : ℕ} (a b c : ℕ) → b < p → c < p → (a * b) % p ≡ 1 → (a * c) % p ≡ 1 → b ≡ c
-inverse-unique {p} a b c lb lc eb ec =
-    b ≡⟨ (rw (mul-one, mod-eq-of-lt lb)) ⟩
-    (b * 1) % p ≡⟨ (rw (← ec, mul-mod-mod, ← mul-assoc b a c, mul-comm b a)) ⟩
-    (a * b * c) % p ≡⟨ (rw (← mod-mul-mod (a * b) c p, eb, one-mul, mod-eq-of-lt lc)) ⟩
-    c ∎

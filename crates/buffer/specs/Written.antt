@@ -4,12 +4,11 @@
 --   sets-append         two writes side by side are one
 --   sets-snoc           one place more
 --   sets-take           one place more of a list that is copied place by place
---   sets-comm           two writes apart may change places
 --   sets-cover          a write over an earlier one, which it covers
 --   getD-sets-other, getD-sets-after    a place read after a write elsewhere
 --   getD-sets-inside    a place read after it was written
 --   take-sets, drop-sets                     the parts before and after a write
---   take-sets-inside, drop-sets-inside       a write within the part that is kept
+--   drop-sets-inside                         a write within the part that is kept
 --   part-sets           the part that was written
 --   sets-part           a part lent from place i on and come back as vs
 --   sets-front          a part lent from place 0 on and come back as vs
@@ -22,10 +21,10 @@ use native.Mathlib.Nat.{add-zero, add-suc, suc-add, le-of-eq}
 use native.Mathlib.Numerals.{add-one}
 use native.Mathlib.Omega.{arith}
 use mathlib.Core.Logic.{_≢_}
-use mathlib.Core.Path.{_≡_, refl, sym, ap, _∙_}
+use mathlib.Core.Path.{_≡_, refl, sym, _∙_}
 use mathlib.Core.List.{List, [], _∷_, _++_, append-assoc, append-nil}
 use lib.ListN.{length, getD, take, drop, set, replicate, length-drop, length-replicate, drop-of-length-le}
-use lib.Seq.{sets, sets-eq, set-comm, set-set, take-set-le, drop-set-lt, take-set-lt, drop-set-add, getD-set-other, drop-drop, drop-at, length-take-le, take-append-seam, getD-drop, getD-take, drop-length, take-suc}
+use lib.Seq.{sets, sets-eq, set-comm, set-set, take-set-le, drop-set-lt, drop-set-add, getD-set-other, drop-drop, drop-at, length-take-le, take-append-seam, getD-drop, getD-take, drop-length, take-suc}
 use Rattle.definition.specs.Answer.{cleared}
 
 module _ {A : Type 0} where
@@ -40,12 +39,6 @@ module _ {A : Type 0} where
 
   pub sets-snoc : (l : List A) (i : ℕ) (vs : List A) (a : A) → set (sets l i vs) (i + length vs) a ≡ sets l i (vs ++ (a ∷ []))
   sets-snoc l i vs a = sym (sets-append l i vs (a ∷ []))
-
-  pub sets-comm : (l : List A) (i j : ℕ) (us vs : List A) → i + length us ≤ j → sets (sets l i us) j vs ≡ sets (sets l j vs) i us
-  sets-comm l i j [] vs h = refl
-  sets-comm l i j (u ∷ us) vs h =
-      let h′ : suc i + length us ≤ j = rw suc-add (rw add-suc at h) in
-      sets-comm (set l i u) (suc i) j us vs h′ ∙ ap (λ (r : List A). sets r (suc i) us) (sets-set l i j u vs (omega arith))
 
   pub sets-cover : (l : List A) (i : ℕ) (us vs : List A) → length us ≤ length vs → sets (sets l i us) i vs ≡ sets l i vs
   sets-cover l i [] vs h = refl
@@ -70,11 +63,6 @@ module _ {A : Type 0} where
   pub drop-sets : (l : List A) (i : ℕ) (vs : List A) (k : ℕ) → i + length vs ≤ k → drop k (sets l i vs) ≡ drop k l
   drop-sets l i [] k h = refl
   drop-sets l i (v ∷ vs) k h = drop-sets (set l i v) (suc i) vs k (omega arith) ∙ drop-set-lt k l i v (omega arith)
-
-  pub take-sets-inside : (l : List A) (i : ℕ) (vs : List A) (k : ℕ) → i + length vs ≤ k → take k (sets l i vs) ≡ sets (take k l) i vs
-  take-sets-inside l i [] k h = refl
-  take-sets-inside l i (v ∷ vs) k h =
-      take-sets-inside (set l i v) (suc i) vs k (omega arith) ∙ rw (take-set-lt k l i v (omega arith))
 
   pub drop-sets-inside : (l : List A) (i : ℕ) (vs : List A) (k : ℕ) → drop k (sets l (k + i) vs) ≡ sets (drop k l) i vs
   drop-sets-inside l i [] k = refl

@@ -5,7 +5,7 @@
 --   bounds-lent                     what number 0 of a cycle tells suffices for a route
 --   cycle-refused cycle-accepted    a cycle
 -- Assumes nothing.
-use Prim.Native.Nat.{ℕ, zero, suc, _+_, _≤_}
+use Prim.Native.Nat.{ℕ, zero, suc, _+_}
 use native.Mathlib.Omega.{arith}
 use mathlib.Core.List.{List, [], _∷_}
 use mathlib.Core.Logic.{_≢_}

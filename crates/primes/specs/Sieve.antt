@@ -10,7 +10,7 @@
 --   sieved-next      what the test says of each entry
 --   sieved-below     a list that passes is what `primesBelow` finds
 -- Assumes nothing.
-use Prim.Native.Nat.{ℕ, zero, suc, _+_, _-_, _*_, _/_, _%_, _<_, _≤_}
+use Prim.Native.Nat.{ℕ, zero, suc, _+_, _-_, _*_, _%_, _<_, _≤_}
 use borrow.Author.Tests.{leb-true, ltb-true, not-true}
 use lib.Dec.{leb, ltb}
 use lib.ListN.{length, getD}

@@ -9,7 +9,7 @@
 --   route-moved          a route that leaves f(g) at place t of the work buffer, and then moves it to place 0
 --   route-finished       a route, and then `finish`: the value in the output, and the work buffer cleared
 -- Assumes nothing.
-use Prim.Native.Nat.{ℕ, _+_, _*_, _<_, _≤_}
+use Prim.Native.Nat.{ℕ, _+_, _<_, _≤_}
 use native.Mathlib.Nat.{le-refl, zero-add}
 use native.Mathlib.Omega.{arith}
 use mathlib.Core.Path.{_≡_, _∙_}
