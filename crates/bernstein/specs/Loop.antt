@@ -10,7 +10,7 @@
 --   parts-rebased level-rebased   the same, from a later list on, and a level that was done from there on
 --   parts-room          there is room for the join
 --   parts-turn          after one part more
---   parts-small         the weight of one part more fits 64 bits
+--   parts-small         the weight of one part more fits 63 bits
 --   parts-level         after all of them
 -- Assumes nothing.
 use Prim.Native.Nat.{ℕ, suc, _+_, _*_, _-_, _^_, _<_, _≤_, min}
@@ -149,7 +149,7 @@ module _ {p n m j : ℕ} {before now : List ℕ} {weight : ℕ} (done : PartsJoi
     parts-weight : weight + weightOfPart p n m i + n + remaining p n m i ≡ bernsteinWeight p n m
     parts-weight = omega (arith, rw (← down) at (done .sum), remaining-next p n m i)
 
-    pub parts-small : weight + weightOfPart p n m i + n < 2 ^ 64
+    pub parts-small : weight + weightOfPart p n m i + n < 2 ^ 63
     parts-small =
         let room = done .prepared .room in
         omega (arith, parts-weight, weight-small (room .prime .above-one) n m (room .order) (room .outer))

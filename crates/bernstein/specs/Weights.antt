@@ -3,7 +3,7 @@
 --   weightOfPart p n m j   the weight of part j of m places
 --   weight-low             at most one place: no product
 --   weight-parts           the q - 1 products of the join, and the weights of the parts
---   weight-small           the weight of orders and counts up to 4096 fits 64 bits
+--   weight-small           the weight of orders and counts up to the limit fits 63 bits
 -- Assumes nothing.
 use Prim.Native.Nat.{ℕ, zero, suc, _+_, _*_, _-_, _^_, _<_, _≤_, min}
 use native.Mathlib.Decide.{decLe}
@@ -94,7 +94,7 @@ module _ {p : ℕ} (above : 1 < p) where
           rw (levels-high depth p n m (omega arith), suc-mul, add-mul)
           (omega (arith, mul-le-mul-right {m = min p m - 1} {n = m} n (omega (arith, min-le-right p m)), mul-comm m n))
 
-  pub weight-small : (n m : ℕ) → n ≤ limit → m ≤ limit → bernsteinWeight p n m < 2 ^ 64
+  pub weight-small : (n m : ℕ) → n ≤ limit → m ≤ limit → bernsteinWeight p n m < 2 ^ 63
   unfolding bernsteinWeight
   weight-small n m bn bm =
       let h : m * n * m ≤ limit * limit * limit = mul-le-mul (mul-le-mul bm bn) bm in

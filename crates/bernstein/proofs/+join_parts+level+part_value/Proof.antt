@@ -251,7 +251,7 @@ module _ (t : ℕ) where
     down : suc (at .loop .j - 1) ≡ at .loop .j
     down = omega arith
 
-    small : at .loop .weight .places + part .part-value2 .result .places + joined .join .result .places < 2 ^ 64
+    small : at .loop .weight .places + part .part-value2 .result .places + joined .join .result .places < 2 ^ 63
     small = omega (arith, parts-small (at .loop .inv) down, part .part-value2 .ensures .sum, joined .join .ensures .places)
 
   join-parts-plus-requires : join-parts-lts.Need-plus-requires join-parts-calls (join-parts-at t) join-parts.Post join-parts-Inv join-parts-μ
