@@ -50,10 +50,13 @@ run: program
 	@answer=$$($(PROGRAM) < "$(JOB)") && test -n "$$answer" && printf '%s\n' "$$answer"
 
 # the job program, which is proved before it is built
-program: toolchain
+program: toolchain $(PROGRAM)
+
+$(PROGRAM): $(CRATES)
 	@mkdir -p target
 	@echo 'proving and building the job program; what is proved already is not proved again' >&2
 	@rt check job_program > target/program.log || { cat target/program.log; false; }
+	@touch $@
 
 formatted: toolchain
 	rt fmt --check

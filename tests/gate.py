@@ -1,8 +1,9 @@
 """The gate: each step is a target of the Makefile, and the first that fails ends it.
 
-The proofs come early, since the tests after them link what was proved. Those tests go in two lanes side by side: the first has every step that
-calls the prover. Before the last line stand the seconds of each step, and the crates and the must-fail edits that took longest. The last line
-adds up: what 'rt ci' counted (crates, must-fail edits, programs), and one for each other step.
+The proofs come early, since the tests after them link what was proved. Those tests go in two lanes side by side; every step that calls the
+prover is in the first, since two calls at a time would write the same logs. Before the last line stand the seconds of each step, and the crates
+and the must-fail edits that took longest. The last line adds up: what 'rt ci' counted (crates, must-fail edits, programs), and one for each
+other step.
 """
 
 import concurrent.futures
@@ -13,7 +14,7 @@ import time
 
 PROOFS = "proofs"
 FIRST = ["formatted", "trace", "second", PROOFS, "library"]
-LANES = [["wrong-definitions", "wrong-weights", "linked", "job-tool"], ["c-interface", "installed", "joiner"]]
+LANES = [["wrong-definitions", "wrong-weights"], ["linked", "c-interface", "installed", "joiner", "job-tool"]]
 SLOWEST = 5
 CRATE = re.compile(r"rt: (\w+) proved \((\d+) s\)")
 EDIT = re.compile(r"rt: must-fail (\S+): refused.*?(\d+) s\)")
