@@ -16,10 +16,13 @@ EDITS = pathlib.Path(__file__).parent / "must-fail"
 
 
 def check(room, crate):
-    """The prover's verdict on the crate, 0 where it admits it and 1 where it refuses it, and the first error that it prints."""
+    """Whether the prover admits the definitions; its verdict on the crate, which comes after them, 0 where it admits it and 1 where it
+    refuses it; and the first error that it prints."""
     done = subprocess.run(["rt", "check", crate], cwd=room, capture_output=True, text=True)
-    errors = [line for line in (done.stdout + done.stderr).splitlines() if ": error: " in line]
-    return done.returncode, errors[0].split(": error: ")[1][:120] if errors else ""
+    lines = (done.stdout + done.stderr).splitlines()
+    errors = [line for line in lines if ": error: " in line]
+    admitted = any(line.startswith("rt: definition proved") for line in lines)
+    return admitted, done.returncode, errors[0].split(": error: ")[1][:120] if errors else ""
 
 
 def refused(equations, edit):
@@ -33,9 +36,9 @@ def refused(equations, edit):
     if text.count(old) != 1:
         raise ValueError(f"its old text stands {text.count(old)} times in {name}")
     file.write_text(text.replace(old, new), encoding="utf-8")
-    if check(room, "definition")[0] != 0:
+    admitted, verdict, error = check(room, crate)
+    if not admitted:
         raise ValueError("the definition is not admitted, so the edit shows nothing")
-    verdict, error = check(room, crate)
     if verdict > 1 or verdict == 1 and not error:
         raise ValueError("the prover could not tell")
     return error if verdict == 1 else None

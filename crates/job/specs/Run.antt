@@ -22,7 +22,7 @@ use Rattle.definition.specs.Job.{composeNumber, cutShort, field, inner, jobRefu
 use Rattle.definition.specs.Refusal.{Test, badModulus, badOrder, badRoute, composeRefusal, composeWork, exceeds, first, limit, notPlaces, test, tooLong}
 use Rattle.definition.specs.Substitution.{composed}
 use Rattle.definition.specs.Weight.{weight}
-use Rattle.job.specs.File.{Accepted, length-listAt, small-inner, small-order, small-outer}
+use Rattle.job_file.specs.File.{Accepted, length-listAt, small-inner, small-order, small-outer}
 use Rattle.refusal.specs.Bounds.{compose-bounds}
 use Rattle.refusal.specs.Tests.{absent, passed}
 

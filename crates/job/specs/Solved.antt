@@ -23,7 +23,7 @@ use Rattle.definition.specs.Refusal.{badOrder, first, limit, notPlaces, renderR
 use Rattle.definition.specs.Substitution.{composed}
 use Rattle.definition.specs.Text.{rendered}
 use Rattle.definition.specs.Weight.{weight}
-use Rattle.job.specs.File.{Accepted, small-order}
+use Rattle.job_file.specs.File.{Accepted, small-order}
 use Rattle.job.specs.Run.{Composition, composition-order}
 use Rattle.refusal.specs.Answers.{answered-accepted, kept-accepted}
 use Rattle.render.specs.Lengths.{accepted-length, refused-length}

@@ -42,7 +42,7 @@ fn write_answer(file: &[u8]) {
 
 // The buffer has a byte more than the longest file, so that a longer one shows.
 fn main() {
-    let mut file = [0u8; job::MOST_BYTES + 1];
+    let mut file = [0u8; job_file::MOST_BYTES + 1];
     let input = read_input(&mut file);
     if input.failed {
         os::fail(b"standard input");

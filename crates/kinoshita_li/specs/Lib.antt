@@ -1,12 +1,4 @@
--- The contracts of route 4's levels, and the laws behind them.
+-- The contracts of route 4, and the laws behind them.
 --
---   Space      the places that the levels use
---   Layout     the parts of a level
---   Graeffe    the two halves of a level
---   Level      a level
 --   Whole      the route as a whole
-pub mod Space
-pub mod Layout
-pub mod Graeffe
-pub mod Level
 pub mod Whole

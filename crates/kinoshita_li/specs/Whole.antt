@@ -31,8 +31,8 @@ use Rattle.product.specs.Segments.{segment}
 use Rattle.route.specs.Contract.{Lent, Route, route-moved}
 use Rattle.route.specs.Table.{written-table}
 use Rattle.route.specs.Within.{Within, segment-sets, within-sets, within-wider}
-use Rattle.kinoshita_li.specs.Level.{LevelLent, Levelled}
-use Rattle.kinoshita_li.specs.Space.{level-places, level-rows}
+use Rattle.levels.specs.Level.{LevelLent, Levelled}
+use Rattle.levels.specs.Space.{level-places, level-rows}
 
 pub record FractionLent (p n q : ℕ) (f w : List ℕ) : Type 0 where
   pub modulus : 0 < p

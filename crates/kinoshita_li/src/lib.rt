@@ -1,6 +1,4 @@
 // Route 4, Kinoshita and Li (document 001, Algorithm 2): f(g) modulo x^n as a coefficient of P / (1 - y g), by halving the order in x.
-mod level;
-
 use product::Weight;
 ghost use lib.ListN.{length};
 ghost use Rattle.definition.specs.Weight.{kinoshitaLiWeight};
@@ -13,7 +11,7 @@ fn fraction(p: u32, n: usize, q: usize, f: &[u32], g: &[u32], w: &mut [u32]) -> 
     ensures { λ s. ⌜ Fraction p n q (now (f .entry)) (now (g .entry)) (now (w .exit)) (s .places) ⌝ }
 {
     bivariate::denominator(p, n, q + 1, g, w);
-    level::level(p, number::halvings(n), n, q, f.len() - 1, f, w)
+    levels::level(p, number::halvings(n), n, q, f.len() - 1, f, w)
 }
 
 // Route 4: f(g) modulo x^n, at place 0 of w.

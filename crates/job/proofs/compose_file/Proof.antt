@@ -3,7 +3,7 @@ use borrow.Author.Needs.{needs}
 use lib.Seq.{length-take-le}
 use mathlib.Core.Path.{sym}
 use Rattle.definition.specs.Job.{inner, outer}
-use Rattle.job.specs.File.{inner-stated, outer-stated}
+use Rattle.job_file.specs.File.{inner-stated, outer-stated}
 use Rattle.job.proofs.compose_file.Statement.{statement}
 use Rattle.job.proofs.compose_file.Tie as tie
 

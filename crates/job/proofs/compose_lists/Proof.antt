@@ -5,7 +5,7 @@ use Prim.Native.Nat.{_≤_}
 use lib.ListN.{length}
 use lib.Seq.{length-take-le}
 use mathlib.Core.Path.{sym, _∙_}
-use Rattle.job.specs.File.{whole}
+use Rattle.job_file.specs.File.{whole}
 use Rattle.job.specs.Run.{composition, lists-few, work-fits}
 use Rattle.job.proofs.compose_lists.Statement.{statement}
 use Rattle.job.proofs.compose_lists.Tie as tie

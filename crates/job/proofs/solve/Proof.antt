@@ -6,7 +6,7 @@ use lib.ListN.{length}
 use lib.Seq.{length-take-le}
 use mathlib.Core.Path.{_≡_, sym, _∙_}
 use Rattle.definition.specs.Job.{order}
-use Rattle.job.specs.File.{Accepted, small-order, whole}
+use Rattle.job_file.specs.File.{Accepted, small-order, whole}
 use Rattle.job.specs.Solved.{solution-composed, solution-large, solution-short}
 use Rattle.job.proofs.solve.Statement.{statement}
 use Rattle.job.proofs.solve.Tie as tie
