@@ -26,7 +26,7 @@ use Rattle.definition.specs.Weight.{weight}
 use Rattle.job_file.specs.File.{Accepted, small-order}
 use Rattle.job.specs.Run.{Composition, composition-order}
 use Rattle.refusal.specs.Answers.{answered-accepted, kept-accepted}
-use Rattle.render.specs.Lengths.{accepted-length, refused-length}
+use Rattle.text.specs.Lengths.{accepted-length, refused-length}
 
 -- the composition, where the number is 0
 pub record Result (file l : List ℕ) (n weight′ : ℕ) : Type 0 where

@@ -19,9 +19,9 @@ use Rattle.definition.specs.Lists.{coefficient}
 use Rattle.definition.specs.Prime.{Prime}
 use Rattle.definition.specs.Refusal.{composeWork, exceeds}
 use Rattle.definition.specs.Reversion.{Reversion}
-use Rattle.reversion.specs.Newton.{newton-reversion}
+use Rattle.newton_step.specs.Newton.{newton-reversion}
 use Rattle.reversion.specs.Start.{started, started-reversion}
-use Rattle.reversion.specs.Step.{Stepped}
+use Rattle.newton_step.specs.Step.{Stepped}
 use Rattle.route.specs.Contract.{Lent}
 use Rattle.route.specs.Within.{Within, within-refl, within-trans, within-wider}
 

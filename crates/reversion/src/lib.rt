@@ -1,6 +1,4 @@
 // Reversion by Newton's iteration: h without constant term such that g(h) is x modulo x^n.
-mod step;
-
 use field::Field;
 use refusal::Answer;
 ghost use mathlib.Core.Path.{_≡_};
@@ -34,7 +32,7 @@ fn newton(p: u32, g: &[u32], h: &mut [u32], w: &mut [u32])
     }
     let half = n / 2 + 1;
     newton(p, g, &mut h[..half], w);
-    step::step(p, g, h, w);
+    newton_step::step(p, g, h, w);
 }
 
 // The reverse series of g: h without constant term such that g(h) is x modulo x^n, in `out`.

@@ -12,7 +12,7 @@ use Rattle.reversion.proofs.newton.Reads as reads
 use Rattle.reversion.proofs.newton.Kinds as kinds
 use Rattle.reversion.proofs.+newton.Lts-newton as lts
 use Rattle.reversion.proofs.start.Reads as start-reads
-use Rattle.reversion.proofs.step.step.Reads as step-reads
+use Rattle.newton_step.proofs.step.Reads as step-reads
 use Rattle.reversion.proofs.+newton.{statement}
 use Rattle.reversion.proofs.+newton.Tie.{close}
 

@@ -1,0 +1,4 @@
+-- Laws of the printed text.
+--
+--   Lengths   the count of bytes of a text
+pub mod Lengths
