@@ -81,16 +81,16 @@ module _ {route : ℕ} {chain : Chain} (c s work : List ℕ) {number : ℕ} (tes
     clears = sym (kept-refused number _ work refused);
   }
 
-  pub cycle-accepted : {s′ then work′ : List ℕ} {places result : ℕ} → number ≡ 0 → length s ≡ chain .order
-      → Route (chain .modulus) (chain .order) c s (weight route (chain .modulus) (chain .order) (length c)) work then result
+  pub cycle-accepted : {s′ then work′ : List ℕ} {places result weighed : ℕ} → number ≡ 0 → length s ≡ chain .order
+      → Route (chain .modulus) (chain .order) c s (weight route (chain .modulus) (chain .order) (length c)) work then result → weighed ≡ result
       → places ≡ cycleWork (chain .order) (length c) → Finished places then work′ s s′
-      → Cycle route chain c s s′ work work′ 0 result (record { modulus = chain .modulus; order = chain .order; done = chain .done + 1 })
+      → Cycle route chain c s s′ work work′ 0 weighed (record { modulus = chain .modulus; order = chain .order; done = chain .done + 1 })
   unfolding nextChain
-  cycle-accepted accepted size run counts finish =
+  cycle-accepted accepted size run read counts finish =
       let finished = route-finished run (omega (arith, counts)) size finish in
       record {
         refusal = sym accepted ∙ tested;
-        weighs = run .sum ∙ sym (answered-accepted _ refl);
+        weighs = read ∙ run .sum ∙ sym (answered-accepted _ refl);
         records = refl;
         running = finished .0 ∙ sym (kept-accepted _ s refl);
         clears = finished .1 ∙ ap (λ k. cleared k work) counts ∙ sym (kept-accepted _ work refl);

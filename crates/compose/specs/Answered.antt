@@ -30,14 +30,14 @@ module _ {route p n : ℕ} (f g out work : List ℕ) {number : ℕ} (tested : nu
     clears = sym (kept-refused number _ work refused);
   }
 
-  pub compose-accepted : {out′ then work′ : List ℕ} {places result : ℕ} → number ≡ 0 → length out ≡ n
-      → Route p n f g (weight route p n (length f)) work then result
-      → places ≡ composeWork n (length f) → Finished places then work′ out out′ → Compose route p n f g out out′ work work′ 0 result
-  compose-accepted accepted size run counted finish =
+  pub compose-accepted : {out′ then work′ : List ℕ} {places result weighed : ℕ} → number ≡ 0 → length out ≡ n
+      → Route p n f g (weight route p n (length f)) work then result → weighed ≡ result
+      → places ≡ composeWork n (length f) → Finished places then work′ out out′ → Compose route p n f g out out′ work work′ 0 weighed
+  compose-accepted accepted size run read counted finish =
       let finished = route-finished run (le-of-eq (sym counted)) size finish in
       record {
         refusal = sym accepted ∙ tested;
-        weighs = run .sum ∙ sym (answered-accepted _ refl);
+        weighs = read ∙ run .sum ∙ sym (answered-accepted _ refl);
         output = finished .0 ∙ sym (kept-accepted _ out refl);
         clears = finished .1 ∙ ap (λ k. cleared k work) counted ∙ sym (kept-accepted _ work refl);
       }

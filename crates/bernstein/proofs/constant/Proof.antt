@@ -3,9 +3,10 @@ use borrow.Author.Needs.{needs}
 use native.Mathlib.Nat.{add-sub-cancel-left}
 use native.Mathlib.Omega.{arith}
 use Prim.Native.Nat.{_≤_}
-use mathlib.Core.Path.{_∙_}
+use mathlib.Core.Path.{_≡_, _∙_}
 use lib.ListN.{length}
 use Rattle.algebra.specs.Composition.{composed-constant}
+use Rattle.definition.specs.Lists.{coefficient}
 use Rattle.product.specs.Segments.{segment, length-segment}
 use Rattle.bernstein.proofs.constant.Statement.{statement}
 use Rattle.bernstein.proofs.constant.Tie as tie
@@ -42,12 +43,9 @@ returns c =
     let start = c .before .before .before .before .before .before .before .before in
     let f = segment (start .args .w .now) (start .args .n) (start .args .m) in
     let short : length f ≤ 1 = omega (arith, length-segment (start .args .w .now) (start .args .n) (start .args .m)) in
-    c .before .before .put-constant .ensures
-    ∙ rw (
-      ← composed-constant (start .args .p) (start .args .n) f _ short,
-      ← add-sub-cancel-left (start .args .n) (start .args .m),
-      ← c .before .before .before .before .place .ensures,
-    )
+    let read = c .before .before .before .before in
+    let first : read .place .result ≡ coefficient f 0 = rw add-sub-cancel-left at (read .place .ensures) in
+    c .before .before .put-constant .ensures ∙ rw (← composed-constant (start .args .p) (start .args .n) f _ short, first)
 
 pub constant-spec : {M : Type 1} → statement M
 constant-spec =

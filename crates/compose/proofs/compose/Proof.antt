@@ -57,9 +57,9 @@ returns-2 c =
     let run = weighed .before .before .before in
     let tested = run .before .before in
     let args = begin tested .args in
-    rw (weighed .value .ensures)
-    (compose-accepted (args .f .now) (args .g .now) (args .out .now) (args .work .now) (tested .before .compose .ensures) (tested .if1 .left)
-    (bounds tested .output) (run .run .ensures) (finish .before .before .before .work-places .ensures) (finish .finish .ensures))
+    compose-accepted (args .f .now) (args .g .now) (args .out .now) (args .work .now) (tested .before .compose .ensures) (tested .if1 .left)
+    (bounds tested .output) (run .run .ensures) (weighed .value .ensures) (finish .before .before .before .work-places .ensures)
+    (finish .finish .ensures)
 
 pub compose-spec : {M : Type 1} → statement M
 compose-spec =

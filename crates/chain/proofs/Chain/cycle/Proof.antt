@@ -69,9 +69,8 @@ returns-2 c =
     let weighed = places .before in
     let run = weighed .before .before .before in
     let args = begin (tested c) .args in
-    rw (weighed .value .ensures)
-    (cycle-accepted (args .list .now) (args .running .now) (args .work .now) (tested c .before .cycle .ensures) (tested c .if1 .left)
-    (bounds (tested c) .running) (run .run .ensures) (places .cycle-places .ensures) (finish .finish .ensures))
+    cycle-accepted (args .list .now) (args .running .now) (args .work .now) (tested c .before .cycle .ensures) (tested c .if1 .left)
+    (bounds (tested c) .running) (run .run .ensures) (weighed .value .ensures) (places .cycle-places .ensures) (finish .finish .ensures)
 
 pub cycle-spec : {M : Type 1} → statement M
 cycle-spec =
