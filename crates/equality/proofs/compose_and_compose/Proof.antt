@@ -1,6 +1,6 @@
 -- `equality::compose_and_compose` meets its contract: the claim about any two calls, of what the two calls ensure. Assumes nothing.
 use borrow.Author.Needs.{needs}
-use Rattle.equality.specs.TwoCalls.{compose, two-calls}
+use Rattle.two_calls.specs.TwoCalls.{compose, two-calls}
 use Rattle.equality.proofs.compose_and_compose.Statement.{statement}
 use Rattle.equality.proofs.compose_and_compose.Tie as tie
 

@@ -1,6 +1,6 @@
 -- `equality::compose_and_cycle` meets its contract: the claim about any two calls, of what the two calls ensure. Assumes nothing.
 use borrow.Author.Needs.{needs}
-use Rattle.equality.specs.TwoCalls.{compose, cycle, two-calls}
+use Rattle.two_calls.specs.TwoCalls.{compose, cycle, two-calls}
 use Rattle.equality.proofs.compose_and_cycle.Statement.{statement}
 use Rattle.equality.proofs.compose_and_cycle.Tie as tie
 

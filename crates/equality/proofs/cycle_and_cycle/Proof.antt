@@ -1,6 +1,6 @@
 -- `equality::cycle_and_cycle` meets its contract: the claim about any two calls, of what the two calls ensure. Assumes nothing.
 use borrow.Author.Needs.{needs}
-use Rattle.equality.specs.TwoCalls.{cycle, two-calls}
+use Rattle.two_calls.specs.TwoCalls.{cycle, two-calls}
 use Rattle.equality.proofs.cycle_and_cycle.Statement.{statement}
 use Rattle.equality.proofs.cycle_and_cycle.Tie as tie
 

@@ -22,7 +22,7 @@ use mathlib.Core.Path.{_≡_, refl, sym, ap, _∙_}
 use lib.ListN.{length, length-append}
 use native.Mathlib.Omega.{arith}
 use Rattle.algebra.specs.Composition.{length-composed}
-use Rattle.chain.specs.Running.{ConstantFree, after-++, identity-places}
+use Rattle.sequence.specs.Running.{ConstantFree, after-++, identity-places}
 use Rattle.definition.specs.Answer.{kept}
 use Rattle.definition.specs.Calls.{Cycle, Open}
 use Rattle.definition.specs.Chain.{Chain, nextChain, openedChain}

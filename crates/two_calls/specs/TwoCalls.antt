@@ -21,7 +21,7 @@ use Rattle.definition.specs.Prime.{Prime}
 use Rattle.definition.specs.Refusal.{exceeds}
 use Rattle.definition.specs.Substitution.{composed}
 use Rattle.definition.specs.Taylor.{leading}
-use Rattle.equality.specs.Leading.{leading-decides}
+use Rattle.two_calls.specs.Leading.{leading-decides}
 use Rattle.refusal.specs.Bounds.{compose-bounds, cycle-bounds}
 
 pub data Call : ℕ → ℕ → ℕ → List ℕ → List ℕ → List ℕ → Type 0 where
