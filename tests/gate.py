@@ -1,19 +1,21 @@
-"""The gate: each step is a target of the Makefile, and the first that fails ends it.
+"""The gate: each step is a target of the Makefile; one that fails ends its lane and, once what runs beside it has ended, the gate.
 
-The proofs come early, since the tests after them link what was proved. Those tests go in two lanes side by side; every step that calls the
-prover is in the first, since two calls at a time would write the same logs. Before the last line stand the seconds of each step, and the crates
-and the must-fail edits that took longest. The last line adds up: what 'rt ci' counted (crates, must-fail edits, programs), and one for each
-other step.
+The proofs come early, since the tests after them link what was proved. Beside the proofs go two steps that need none, from the first crate on,
+since 'rt ci' begins by removing target/. The tests after the proofs go in two lanes side by side; every step that calls the prover is in the
+first, since two calls at a time would write the same logs. Before the last line stand the seconds of each step, and the crates and the
+must-fail edits that took longest. The last line adds up: what 'rt ci' counted (crates, must-fail edits, programs), and one for each other step.
 """
 
 import concurrent.futures
 import re
 import subprocess
 import sys
+import threading
 import time
 
 PROOFS = "proofs"
-FIRST = ["formatted", "trace", "second", PROOFS, "library"]
+FIRST = ["formatted", PROOFS, "library"]
+BESIDE = ["trace", "second"]
 LANES = [["wrong-definitions", "wrong-weights"], ["linked", "c-interface", "installed", "joiner", "job-tool"]]
 SLOWEST = 5
 CRATE = re.compile(r"rt: (\w+) proved \((\d+) s\)")
@@ -23,11 +25,12 @@ EDIT = re.compile(r"rt: must-fail (\S+): refused.*?(\d+) s\)")
 class Step:
     """A step that was run: what it printed, its seconds, and how many of its parts passed and failed."""
 
-    def __init__(self, name, shown):
+    def __init__(self, name, shown, read):
         begin = time.monotonic()
         self.name, self.lines = name, []
         process = subprocess.Popen(["make", "--no-print-directory", name], stdout=subprocess.PIPE, stderr=subprocess.STDOUT, text=True)
         for line in process.stdout:
+            read(line)
             self.lines.append(line.rstrip())
             if shown:
                 print(line, end="", flush=True)
@@ -39,13 +42,13 @@ class Step:
             self.passed, self.failed = (int(found[1]), max(int(found[2]), self.failed)) if found else (0, 1)
 
 
-def lane(names, shown):
-    """Runs the steps, up to the first that fails; shows what each prints as it comes, or whole when it has ended."""
+def lane(names, shown, read=lambda line: None):
+    """Runs the steps, up to the first that fails; shows what each prints as it comes, or whole when it has ended. `read` gets each line."""
     steps = []
     for name in names:
         if shown:
             print(f"== {name}", flush=True)
-        steps.append(Step(name, shown))
+        steps.append(Step(name, shown, read))
         if not shown:
             print("\n".join([f"== {name}", *steps[-1].lines]), flush=True)
         if steps[-1].failed:
@@ -60,9 +63,24 @@ def slowest(pattern, steps):
     return ", ".join(f"{name} {seconds} s" for seconds, name in sorted(found, reverse=True)[:SLOWEST])
 
 
+def first():
+    """The proofs with what comes before and after them, and the steps beside them."""
+    begun = threading.Event()
+
+    def beside():
+        begun.wait()
+        return lane(BESIDE, False)
+
+    with concurrent.futures.ThreadPoolExecutor() as pool:
+        others = pool.submit(beside)
+        steps = lane(FIRST, True, lambda line: CRATE.match(line) and begun.set())
+        begun.set()
+        return steps + others.result()
+
+
 def main():
-    steps = lane(FIRST, True)
-    if not steps[-1].failed:
+    steps = first()
+    if not any(step.failed for step in steps):
         with concurrent.futures.ThreadPoolExecutor() as pool:
             for more in pool.map(lambda names: lane(names, False), LANES):
                 steps += more

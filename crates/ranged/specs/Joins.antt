@@ -32,7 +32,7 @@ use Rattle.horner.specs.Part.{Part, PartOperands}
 use Rattle.product.specs.Segments.{segment}
 use Rattle.product.specs.Single.{MultipliedAdd, Operands, addedProduct, length-joined}
 use Rattle.route.specs.Within.{Within, segment-sets, segment-within, within-sets, within-trans, within-wider}
-use Rattle.ranged.specs.Kept.{Holds, holds-within, next-place}
+use Rattle.powers.specs.Kept.{Holds, holds-within, next-place}
 use Rattle.ranged.specs.Spans.{length-block, length-span, span, span-alone, span-block, span-composed, span-weight}
 
 pub record SpanOperands (p n b level j t : ℕ) (f w : List ℕ) : Type 0 where

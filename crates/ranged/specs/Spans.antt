@@ -26,7 +26,7 @@ use Rattle.definition.specs.Lists.{ceilDiv}
 use Rattle.definition.specs.Ranged.{block, cutPower, joined}
 use Rattle.definition.specs.Substitution.{composed}
 use Rattle.definition.specs.Weight.{halvings, hornerWeight}
-use Rattle.ranged.specs.Powers.{doubled}
+use Rattle.powers.specs.Powers.{doubled}
 
 unfoldable pub span : ℕ → ℕ → ℕ → List ℕ → List ℕ
 span b level j f = take (b * 2 ^ level) (drop (b * j) f)

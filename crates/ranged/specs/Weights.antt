@@ -1,10 +1,9 @@
 -- The weight of route 2.
 --
---   powersProducts b rounds   the products that form the powers g^b, g^(2b), g^(4b) and on, one for each round of joins
---   join-products             k blocks, k above 1, are joined by k - 1 products, with a squaring before each round but the first
---   ranged-weight             the weight of route 2: that of route 1, and the products that form the powers
---   few-rounds                at most 4096 places are joined in at most 12 rounds
---   few-products              then few products form the powers
+--   join-products   k blocks, k above 1, are joined by k - 1 products, with a squaring before each round but the first
+--   ranged-weight   the weight of route 2: that of route 1, and the products that form the powers
+--   few-rounds      at most 4096 places are joined in at most 12 rounds
+--   few-products    then few products form the powers
 -- Assumes nothing.
 use Prim.Native.Nat.{ℕ, zero, suc, _+_, _-_, _*_, _<_, _≤_}
 use native.Mathlib.Decide.{decLt}
@@ -20,10 +19,7 @@ use Rattle.algebra.specs.Lists.{ceilDiv-below}
 use Rattle.definition.specs.Lists.{ceilDiv}
 use Rattle.definition.specs.Refusal.{limit}
 use Rattle.definition.specs.Weight.{halvings, hornerWeight, joinProducts, powerProducts, rangedProducts, rangedWeight}
-
-unfoldable pub powersProducts : ℕ → ℕ → ℕ
-powersProducts b zero = 0
-powersProducts b (suc rounds) = powerProducts b + rounds
+use Rattle.powers.specs.Kept.{powersProducts}
 
 join-products : (rounds k : ℕ) → k ≤ rounds → 1 < k → joinProducts rounds k ≡ k - 1 + (halvings k - 1)
 unfolding joinProducts ceilDiv

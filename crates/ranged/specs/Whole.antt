@@ -25,7 +25,7 @@ use Rattle.product.specs.Segments.{segment}
 use Rattle.route.specs.Contract.{Lent}
 use Rattle.route.specs.Within.{Within, segment-within, within-trans, within-wider}
 use Rattle.ranged.specs.Joins.{SpanOperands, SpanPart, span-small}
-use Rattle.ranged.specs.Kept.{PowerOperands, Powers}
+use Rattle.powers.specs.Kept.{PowerOperands, Powers}
 use Rattle.ranged.specs.Spans.{span, span-whole}
 use Rattle.ranged.specs.Weights.{few-products, few-rounds, ranged-weight}
 

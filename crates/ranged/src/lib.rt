@@ -11,48 +11,9 @@ ghost use Rattle.definition.specs.Weight.{halvings, rangedWeight};
 ghost use Rattle.horner.specs.Part.{Part};
 ghost use Rattle.route.specs.Contract.{Lent, Route};
 ghost use Rattle.ranged.specs.Joins.{SpanOperands, SpanPart};
-ghost use Rattle.ranged.specs.Kept.{BasePower, PowerOperands, Powers, Squares};
 
 // The number of places of a block.
 const BLOCK_LENGTH: usize = 4;
-
-// The n places from n on become G^4 modulo p, cut to n places, where G are the first n places. The n places after them are used.
-fn fourth_power(p: u32, n: usize, w: &mut [u32]) -> Weight
-    requires { ⌜ PowerOperands p n 1 (now w) ⌝ }
-    ensures { λ r. ⌜ BasePower p n blockLength (now (w .entry)) (now (w .exit)) (r .places) ⌝ }
-{
-    let square = product::multiply(p, n, w, 0, 0, 2 * n);
-    let fourth = product::multiply(p, n, w, 2 * n, 2 * n, n);
-    square.plus(fourth)
-}
-
-// The power at place n is squared, and the square squared, until there are as many powers as rounds, one after the other.
-fn squares(p: u32, n: usize, rounds: usize, w: &mut [u32]) -> Weight
-    requires { ⌜ PowerOperands p n rounds (now w) × (0 < rounds) ⌝ }
-    ensures { λ r. ⌜ Squares p n rounds (now (w .entry)) (now (w .exit)) (r .places) ⌝ }
-{
-    let mut weight = Weight::none();
-    let mut i = 1;
-    while i < rounds {
-        let places = product::multiply(p, n, w, i * n, i * n, (i + 1) * n);
-        weight = weight.plus(places);
-        i += 1;
-    }
-    weight
-}
-
-// The powers of the inner list that so many rounds of joins need: none where there is nothing to join.
-fn powers(p: u32, n: usize, rounds: usize, w: &mut [u32]) -> Weight
-    requires { ⌜ PowerOperands p n rounds (now w) ⌝ }
-    ensures { λ r. ⌜ Powers p n blockLength rounds (now (w .entry)) (now (w .exit)) (r .places) ⌝ }
-{
-    if rounds == 0 {
-        return Weight::none();
-    }
-    let first = fourth_power(p, n, w);
-    let others = squares(p, n, rounds, w);
-    first.plus(others)
-}
 
 // The number of rounds in which m places, in blocks of b, are joined.
 fn rounds(m: usize, b: usize) -> usize
@@ -128,7 +89,7 @@ pub fn ranged(p: u32, n: usize, f: &[u32], g: &[u32], w: &mut [u32]) -> Weight
     let levels = rounds(f.len(), BLOCK_LENGTH);
     let t = (levels + 1) * n;
     route::put(g, n, w, 0);
-    let formed = powers(p, n, levels, w);
+    let formed = powers::powers(p, n, levels, w);
     let joined = compose_span(p, n, BLOCK_LENGTH, f, levels, 0, w, t);
     buffer::move_down(w, t, 0, n);
     formed.plus(joined)

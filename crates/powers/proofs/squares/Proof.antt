@@ -1,11 +1,11 @@
--- `ranged::squares` meets its contract: after i powers, those are as the contract says. Assumes nothing.
+-- `powers::squares` meets its contract: after i powers, those are as the contract says. Assumes nothing.
 use borrow.Author.Needs.{needs}
-use Rattle.ranged.specs.Kept.{Squares, place-bound, squares-first, squares-next, squares-operands}
+use Rattle.powers.specs.Kept.{Squares, place-bound, squares-first, squares-next, squares-operands}
 use native.Mathlib.Omega.{arith}
 use Prim.Native.Nat.{_+_, _-_, _<_, _≤_}
 use mathlib.Core.Path.{_≡_}
-use Rattle.ranged.proofs.squares.Statement.{statement}
-use Rattle.ranged.proofs.squares.Tie as tie
+use Rattle.powers.proofs.squares.Statement.{statement}
+use Rattle.powers.proofs.squares.Tie as tie
 
 abbrev Inv-loop : tie.InvT-loop
 Inv-loop p n rounds w₀ weight₀ i₀ w weight i = (0 < i) × (i ≤ rounds) × Squares p n i w₀ w (weight .places)

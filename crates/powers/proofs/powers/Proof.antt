@@ -1,13 +1,13 @@
--- `ranged::powers` meets its contract: the first power, and its squares. Assumes nothing.
+-- `powers::powers` meets its contract: the first power, and its squares. Assumes nothing.
 use borrow.Author.Needs.{needs}
 use lib.Count.{leadingZeros, ones, onesIn}
 use Rattle.definition.specs.Ranged.{blockLength}
 use Rattle.definition.specs.Weight.{powerProducts}
-use Rattle.ranged.specs.Kept.{first-operands, place-bound, powers-made, powers-none}
+use Rattle.powers.specs.Kept.{first-operands, place-bound, powers-made, powers-none}
 use native.Mathlib.Omega.{arith}
 use Prim.Native.Nat.{_-_}
-use Rattle.ranged.proofs.powers.Statement.{statement}
-use Rattle.ranged.proofs.powers.Tie as tie
+use Rattle.powers.proofs.powers.Statement.{statement}
+use Rattle.powers.proofs.powers.Tie as tie
 
 none-requires : tie.Need-none-requires
 none-requires c κs = search needs

@@ -1,10 +1,10 @@
--- `ranged::fourth_power` meets its contract: two squarings. Assumes nothing.
+-- `powers::fourth_power` meets its contract: two squarings. Assumes nothing.
 use borrow.Author.Needs.{needs}
 use mathlib.Core.Logic.{inl, inr}
-use Rattle.ranged.specs.Kept.{fourth-power, square-operands}
+use Rattle.powers.specs.Kept.{fourth-power, square-operands}
 use native.Mathlib.Omega.{arith}
-use Rattle.ranged.proofs.fourth_power.Statement.{statement}
-use Rattle.ranged.proofs.fourth_power.Tie as tie
+use Rattle.powers.proofs.fourth_power.Statement.{statement}
+use Rattle.powers.proofs.fourth_power.Tie as tie
 
 mul-multiply : tie.Need-mul-multiply
 mul-multiply c = search needs

@@ -2,6 +2,7 @@
 -- place (i + 1) n.
 --
 --   Holds p n b g count w   the first `count` powers stand in w
+--   powersProducts b rounds the products that form g^b, g^(2b), g^(4b) and on, one for each round of joins
 --   PowerOperands           what the routines that form them require: the places of the powers, and n after them
 --   BasePower               the contract of `fourth_power`: the power g^b
 --   Squares                 the contract of `squares`: from the first power, whatever power it is, the others
@@ -36,11 +37,14 @@ use Rattle.definition.specs.Weight.{powerProducts}
 use Rattle.product.specs.Segments.{segment, Apart}
 use Rattle.product.specs.Single.{Multiplied, Operands}
 use Rattle.route.specs.Within.{Within, segment-sets, segment-within, within-refl, within-sets, within-trans, within-wider}
-use Rattle.ranged.specs.Powers.{cut-power, first-power, length-cutProduct, power-product, power-square}
-use Rattle.ranged.specs.Weights.{powersProducts}
+use Rattle.powers.specs.Powers.{cut-power, first-power, length-cutProduct, power-product, power-square}
 
 pub record Holds (p n b : ℕ) (g : List ℕ) (count : ℕ) (w : List ℕ) : Type 0 where
   pub power : (i : ℕ) → i < count → segment w ((i + 1) * n) n ≡ cutPower p n g (b * 2 ^ i)
+
+unfoldable pub powersProducts : ℕ → ℕ → ℕ
+powersProducts b zero = 0
+powersProducts b (suc rounds) = powerProducts b + rounds
 
 pub record PowerOperands (p n rounds : ℕ) (w : List ℕ) : Type 0 where
   pub modulus : 0 < p
