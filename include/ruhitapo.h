@@ -32,7 +32,7 @@ extern "C" {
 enum {
     RUHITAPO_ACCEPTED = 0,
     RUHITAPO_BAD_ROUTE = 1,             /* the route is not 1, 2, 3 or 4 */
-    RUHITAPO_BAD_MODULUS = 2,           /* p is not prime or above 2147483647 */
+    RUHITAPO_BAD_MODULUS = 2,           /* p is not prime or above 4294967295 */
     RUHITAPO_BAD_ORDER = 3,             /* n is 0 or above 4096 */
     RUHITAPO_OUTER_LIST_TOO_LONG = 4,   /* the outer list has more than 4096 places */
     RUHITAPO_INNER_LIST_TOO_LONG = 5,   /* the inner list, series or cycle list has more than 4096 places */
@@ -55,10 +55,10 @@ enum {
     RUHITAPO_KINOSHITA_LI = 4
 };
 
-/* Limits. */
+/* Limits. The largest modulus is no prime itself: the last prime up to it, which is the largest that is taken, is 4294967291. */
 #define RUHITAPO_LARGEST_ORDER 4096u
 #define RUHITAPO_LONGEST_LIST 4096u
-#define RUHITAPO_LARGEST_MODULUS 2147483647u
+#define RUHITAPO_LARGEST_MODULUS 4294967295u
 #define RUHITAPO_MOST_CYCLES 64u
 #define RUHITAPO_PRIMES 16u
 
@@ -120,7 +120,7 @@ typedef struct ruhitapo_text_answer {
  *
  * Refused if, tested in this order:
  *   1  route is not 1, 2, 3 or 4
- *   2  p is not prime or above 2147483647
+ *   2  p is not prime or above 4294967295
  *   3  n is 0 or above 4096
  *   4  f_count is above 4096
  *   5  g_count is above 4096
@@ -142,7 +142,7 @@ ruhitapo_answer ruhitapo_compose(uint32_t route, uint32_t p, size_t n,
  * The reverse series of g: the one h with constant term 0 and g(h) = x modulo x^n.
  *
  * Refused if, tested in this order:
- *   2  p is not prime or above 2147483647
+ *   2  p is not prime or above 4294967295
  *   3  n is 0 or above 4096
  *   5  g_count is above 4096
  *   6  out_count is not n
@@ -162,7 +162,7 @@ ruhitapo_answer ruhitapo_reverse(uint32_t p, size_t n,
  * Opens a chain of modulus p and order n: the running series, which stands in the buffer `running`, becomes x modulo x^n.
  *
  * Refused if, tested in this order:
- *   2  p is not prime or above 2147483647
+ *   2  p is not prime or above 4294967295
  *   3  n is 0 or above 4096
  *   6  running_count is not n
  *
@@ -185,7 +185,7 @@ ruhitapo_cycle_answer ruhitapo_cycle_numbers(uint32_t modulus, size_t order, uin
  *
  * Refused if, tested in this order:
  *   1  route is not 1, 2, 3 or 4
- *   2  p is not prime or above 2147483647
+ *   2  p is not prime or above 4294967295
  *   3  n is 0 or above 4096
  *   5  list_count is above 4096
  *   6  running_count is not n

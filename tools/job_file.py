@@ -4,7 +4,6 @@ import re
 import struct
 
 ROUTES = {"horner": 1, "ranged": 2, "bernstein": 3, "kinoshita-li": 4}
-LARGEST_MODULUS = 2**31 - 1
 # route, modulus, order, outer count, outer offset, inner count, inner offset
 HEADER = struct.Struct("<7I")
 # what the job program takes: bytes of a file, and the order and the counts that its header states
@@ -54,8 +53,8 @@ def refusal(file):
             return 13, why
     if route not in ROUTES.values():
         return 1, f"the route is {route}, not 1, 2, 3 or 4"
-    if modulus > LARGEST_MODULUS or not is_prime(modulus):
-        return 2, f"the modulus {modulus} is {'no prime' if modulus <= LARGEST_MODULUS else f'above {LARGEST_MODULUS}'}"
+    if not is_prime(modulus):
+        return 2, f"the modulus {modulus} is no prime"
     if order == 0:
         return 3, "the order is 0"
     for name, count, offset in lists:

@@ -4,16 +4,33 @@
 #include "random.h"
 
 static const uint32_t small_primes[] = {2, 2, 3, 3, 5, 7, 7, 11, 13, 31, 97, 65537};
-static const uint32_t bad_moduli[] = {0, 1, 4, 9, 6, 65536, 2147117569u, 2147483645u, 2147483646u, 2147483648u, 2147483659u,
-                                      4294967291u, 4294967295u};
+/* the first above 2^31, and the last two below 2^32 */
+static const uint32_t large_primes[] = {2147483659u, 4294967279u, 4294967291u};
+/* 46337^2 and 65521^2 among them */
+static const uint32_t bad_moduli[] = {0, 1, 4, 9, 6, 65536, 2147117569u, 2147483645u, 2147483646u, 2147483648u, 4293001441u,
+                                      4294967289u, 4294967292u, 4294967293u, 4294967294u, 4294967295u};
 
 #define COUNT(array) (sizeof(array) / sizeof *(array))
 
+/* One of these, or the first prime from any number above 2^31 downwards. */
+static uint32_t large_prime(void)
+{
+    uint32_t p;
+    if (random_below(2) == 0)
+        return large_primes[random_below(COUNT(large_primes))];
+    p = large_primes[0] + (uint32_t)random_below(UINT32_MAX - large_primes[0]);
+    while (!plain_is_prime(p))
+        p--;
+    return p;
+}
+
 static uint32_t random_modulus(void)
 {
-    if (random_below(4) == 0)
-        return plain_table((uint32_t)random_below(16));
-    return small_primes[random_below(COUNT(small_primes))];
+    switch (random_below(8)) {
+    case 0: return plain_table((uint32_t)random_below(16));
+    case 1: return large_prime();
+    default: return small_primes[random_below(COUNT(small_primes))];
+    }
 }
 
 void random_list(uint32_t p, uint32_t *list, size_t count)

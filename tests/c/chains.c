@@ -58,4 +58,7 @@ void chains_make(void)
     fill(7, 1);
     fill(7, 12);
     fill(2147483647u, 33);
+    fill(2147483659u, 33);
+    fill(4294967279u, 20);
+    fill(4294967291u, 33);
 }

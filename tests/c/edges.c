@@ -4,13 +4,21 @@
 
 #include <string.h>
 
-#define LARGEST 2147483647u
+/* the largest prime that is a modulus */
+#define LARGEST 4294967291u
 
 static const struct edge edges[] = {
     {COMPOSE, 0, 7, 4, 3, 3, 0, 0, ANY}, {COMPOSE, 5, 7, 4, 3, 3, 0, 0, ANY},
     {COMPOSE, 1, 7, 0, 3, 3, 0, 0, ANY}, {COMPOSE, 1, 7, 1, 3, 3, 0, 0, ANY}, {COMPOSE, 4, 7, 1, 1, 0, 0, 0, ANY},
     {COMPOSE, 1, LARGEST, 4096, 2, 4096, 0, 0, ANY}, {COMPOSE, 2, LARGEST, 4096, 3, 3, 0, 0, ANY},
     {COMPOSE, 3, 2, 4096, 3, 4096, 0, 0, ANY}, {COMPOSE, 4, LARGEST, 4096, 2, 2, 0, 0, ANY},
+    {COMPOSE, 3, LARGEST, 64, 64, 64, 0, 0, BELOW}, {COMPOSE, 4, 4294967279u, 64, 64, 64, 0, 0, BELOW},
+    {COMPOSE, 1, 2147483647u, 4, 3, 3, 0, 0, ANY}, {COMPOSE, 1, 2147483648u, 4, 3, 3, 0, 0, ANY},
+    {COMPOSE, 2, 2147483659u, 4, 3, 3, 0, 0, BELOW}, {COMPOSE, 2, 2147483659u, 4, 3, 3, 0, 0, EQUAL},
+    {COMPOSE, 1, LARGEST - 2, 4, 3, 3, 0, 0, ANY}, {COMPOSE, 1, LARGEST - 1, 4, 3, 3, 0, 0, ANY},
+    {COMPOSE, 1, LARGEST, 4, 3, 3, 0, 0, BELOW}, {COMPOSE, 1, LARGEST, 4, 3, 3, 0, 0, EQUAL},
+    {COMPOSE, 1, LARGEST + 1, 4, 3, 3, 0, 0, ANY}, {COMPOSE, 1, LARGEST + 2, 4, 3, 3, 0, 0, ANY},
+    {COMPOSE, 1, LARGEST + 3, 4, 3, 3, 0, 0, ANY}, {COMPOSE, 1, LARGEST + 4, 4, 3, 3, 0, 0, ANY},
     {COMPOSE, 1, 7, 4097, 1, 1, 0, 0, ANY}, {COMPOSE, 4, 7, 4097, 1, 1, 0, 0, ANY},
     {COMPOSE, 1, LARGEST, 3, 4096, 5, 0, 0, ANY}, {COMPOSE, 2, LARGEST, 3, 4096, 5, 0, 0, ANY},
     {COMPOSE, 3, 3, 3, 4096, 5, 0, 0, ANY}, {COMPOSE, 4, LARGEST, 3, 4096, 5, 0, 0, ANY},
@@ -25,17 +33,18 @@ static const struct edge edges[] = {
     {REVERSE, 0, 7, 0, 0, 3, 0, 0, ANY}, {REVERSE, 0, 7, 1, 0, 0, 0, 0, ANY}, {REVERSE, 0, 7, 1, 0, 1, 0, 0, ANY},
     {REVERSE, 0, 7, 2, 0, 0, 0, 0, ANY}, {REVERSE, 0, 7, 2, 0, 1, 0, 0, ANY}, {REVERSE, 0, 2, 2, 0, 2, 0, 0, ANY},
     {REVERSE, 0, LARGEST, 4096, 0, 2, 0, 0, ANY}, {REVERSE, 0, 7, 4097, 0, 2, 0, 0, ANY},
+    {REVERSE, 0, LARGEST, 64, 0, 64, 0, 0, BELOW}, {REVERSE, 0, LARGEST + 2, 4, 0, 3, 0, 0, ANY}, {REVERSE, 0, LARGEST + 4, 4, 0, 3, 0, 0, ANY},
     {REVERSE, 0, 7, 5, 0, 4096, 0, 0, ANY}, {REVERSE, 0, 7, 5, 0, 4097, 0, 0, ANY},
     {REVERSE, 0, 7, 5, 0, 4, 1, 0, ANY}, {REVERSE, 0, 7, 5, 0, 4, -1, 0, ANY}, {REVERSE, 0, 7, 5, 0, 4, 0, -1, ANY},
     {REVERSE, 0, 7, 5, 0, 4, 0, 0, BELOW}, {REVERSE, 0, 7, 5, 0, 4, 0, 0, EQUAL}, {REVERSE, 0, 4, 5, 0, 4, 0, 0, ANY},
     {OPEN, 0, 7, 0, 0, 0, 0, 0, ANY}, {OPEN, 0, 7, 1, 0, 0, 0, 0, ANY}, {OPEN, 0, 7, 2, 0, 0, 0, 0, ANY},
     {OPEN, 0, LARGEST, 4096, 0, 0, 0, 0, ANY}, {OPEN, 0, 7, 4097, 0, 0, 0, 0, ANY}, {OPEN, 0, 7, 4, 0, 0, 1, 0, ANY},
     {OPEN, 0, 7, 4, 0, 0, -1, 0, ANY}, {OPEN, 0, 1, 4, 0, 0, 0, 0, ANY}, {OPEN, 0, 2, 4, 0, 0, 0, 0, ANY},
-    {OPEN, 0, LARGEST + 1, 4, 0, 0, 0, 0, ANY}, {OPEN, 0, 4, 0, 0, 0, 1, 0, ANY}, {OPEN, 0, 7, 0, 0, 0, 1, 0, ANY},
+    {OPEN, 0, LARGEST + 1, 4, 0, 0, 0, 0, ANY}, {OPEN, 0, LARGEST + 4, 4, 0, 0, 0, 0, ANY}, {OPEN, 0, 4, 0, 0, 0, 1, 0, ANY}, {OPEN, 0, 7, 0, 0, 0, 1, 0, ANY},
     {CYCLE, 0, 7, 4, 3, 0, 0, 0, ANY}, {CYCLE, 1, 7, 4, 3, 0, 0, 0, ANY}, {CYCLE, 2, 7, 4, 3, 0, 0, 0, ANY},
     {CYCLE, 3, 7, 4, 3, 0, 0, 0, ANY}, {CYCLE, 4, 7, 4, 3, 0, 0, 0, ANY}, {CYCLE, 5, 7, 4, 3, 0, 0, 0, ANY},
     {CYCLE, 1, 0, 0, 3, 0, 0, 0, ANY}, {CYCLE, 1, 1, 4, 3, 0, 0, 0, ANY}, {CYCLE, 1, 2, 4, 3, 0, 0, 0, ANY}, {CYCLE, 1, LARGEST, 4, 3, 0, 0, 0, ANY},
-    {CYCLE, 1, LARGEST + 1, 4, 3, 0, 0, 0, ANY}, {CYCLE, 1, 7, 0, 3, 0, 0, 0, ANY}, {CYCLE, 1, 7, 1, 3, 0, 0, 0, ANY},
+    {CYCLE, 1, LARGEST + 1, 4, 3, 0, 0, 0, ANY}, {CYCLE, 1, LARGEST + 4, 4, 3, 0, 0, 0, ANY}, {CYCLE, 1, 7, 0, 3, 0, 0, 0, ANY}, {CYCLE, 1, 7, 1, 3, 0, 0, 0, ANY},
     {CYCLE, 4, LARGEST, 4096, 3, 0, 0, 0, ANY}, {CYCLE, 1, 7, 4097, 3, 0, 0, 0, ANY}, {CYCLE, 1, 7, 3, 0, 0, 0, 0, ANY},
     {CYCLE, 1, 7, 3, 4096, 0, 0, 0, ANY}, {CYCLE, 2, LARGEST, 3, 4096, 0, 0, 0, ANY}, {CYCLE, 1, 7, 3, 4097, 0, 0, 0, ANY},
     {CYCLE, 1, 7, 4, 3, 0, 1, 0, ANY}, {CYCLE, 1, 7, 4, 3, 0, -1, 0, ANY}, {CYCLE, 1, 7, 4, 3, 0, 0, 1, ANY},

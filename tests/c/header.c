@@ -37,7 +37,7 @@ static const struct {
     IS(4, RUHITAPO_KINOSHITA_LI),
     IS(4096, RUHITAPO_LARGEST_ORDER),
     IS(4096, RUHITAPO_LONGEST_LIST),
-    IS(2147483647, RUHITAPO_LARGEST_MODULUS),
+    IS(4294967295, RUHITAPO_LARGEST_MODULUS),
     IS(64, RUHITAPO_MOST_CYCLES),
     IS(16, RUHITAPO_PRIMES),
     IS(45085, RUHITAPO_MOST_TEXT_BYTES),
@@ -142,9 +142,6 @@ static const struct {
     LIMIT(5, RUHITAPO_LONGEST_LIST, CYCLE, 1, 7, 2, RUHITAPO_LONGEST_LIST + 1, 0, 0, 0),
     LIMIT(0, RUHITAPO_MOST_CYCLES, CYCLE, 1, 7, 4, 3, RUHITAPO_MOST_CYCLES - 1, 0, 0),
     LIMIT(11, RUHITAPO_MOST_CYCLES, CYCLE, 1, 7, 4, 3, RUHITAPO_MOST_CYCLES, 0, 0),
-    LIMIT(0, RUHITAPO_LARGEST_MODULUS, OPEN, 0, RUHITAPO_LARGEST_MODULUS, 4, 0, 0, 0, 0),
-    LIMIT(0, RUHITAPO_LARGEST_MODULUS, COMPOSE, 1, RUHITAPO_LARGEST_MODULUS, 4, 3, 3, 0, 0),
-    LIMIT(0, RUHITAPO_LARGEST_MODULUS, REVERSE, 0, RUHITAPO_LARGEST_MODULUS, 4, 0, 3, 0, 0),
     LIMIT(0, RUHITAPO_PRIMES, PRIME, RUHITAPO_PRIMES - 1, 0, 0, 0, 0, 0, 0),
     LIMIT(14, RUHITAPO_PRIMES, PRIME, RUHITAPO_PRIMES, 0, 0, 0, 0, 0, 0),
 };
@@ -164,14 +161,25 @@ static void make_calls(void)
         call_compare(calls[i].name, calls[i].number, at(&calls[i].edge).number);
 }
 
-/* The first prime above the largest modulus is refused. */
-static void beyond_largest_modulus(void)
+/* Every call takes the last prime up to the largest modulus, and none takes a number after it. */
+static void compare_largest_modulus(void)
 {
-    struct edge edge = {COMPOSE, 1, RUHITAPO_LARGEST_MODULUS, 4, 3, 3, 0, 0, ANY};
-    do
-        edge.p++;
-    while (!plain_is_prime(edge.p));
-    call_compare("RUHITAPO_LARGEST_MODULUS", 2, at(&edge).number);
+    struct edge edges[] = {
+        {COMPOSE, 1, 0, 4, 3, 3, 0, 0, ANY},
+        {REVERSE, 0, 0, 4, 0, 3, 0, 0, ANY},
+        {OPEN, 0, 0, 4, 0, 0, 0, 0, ANY},
+        {CYCLE, 1, 0, 4, 3, 0, 0, 0, ANY},
+    };
+    uint64_t p = (uint64_t)RUHITAPO_LARGEST_MODULUS + 1;
+    size_t i;
+    do {
+        p--;
+        for (i = 0; i < COUNT(edges); i++) {
+            edges[i].p = (uint32_t)p;
+            call_compare("RUHITAPO_LARGEST_MODULUS", plain_is_prime(p) ? 0 : 2, at(edges + i).number);
+        }
+    } while (!plain_is_prime(p));
+    call_compare("the last prime up to RUHITAPO_LARGEST_MODULUS", 4294967291u, p);
 }
 
 /* Each route weighs what its rule says, and no two weigh the same. */
@@ -224,7 +232,7 @@ static void compare_cycle(void)
         {CYCLE, 3, 5, 9, 12, 63, 0, 0, ANY}, {CYCLE, 4, 13, 9, 12, 62, 0, 0, ANY}, {CYCLE, 1, 9, 4, 3, 7, 0, 0, ANY},
         {CYCLE, 1, 7, 0, 3, 0, 0, 0, ANY},   {CYCLE, 1, 7, 2, 4097, 0, 0, 0, ANY}, {CYCLE, 1, 7, 4, 3, 0, 1, 0, ANY},
         {CYCLE, 1, 7, 4, 3, 0, 0, -1, ANY},  {CYCLE, 1, 7, 4, 3, 0, 0, 0, EQUAL},  {CYCLE, 1, 7, 4, 3, 0, 0, 0, CONSTANT},
-        {CYCLE, 1, 7, 4, 3, 64, 0, 0, ANY},  {CYCLE, 1, 7, 4, 3, 0, 0, 5, ANY},    {CYCLE, 4, 2147483647, 3, 2, 1, 0, 0, ANY},
+        {CYCLE, 1, 7, 4, 3, 64, 0, 0, ANY},  {CYCLE, 1, 7, 4, 3, 0, 0, 5, ANY},    {CYCLE, 4, 4294967291, 3, 2, 1, 0, 0, ANY},
     };
     static struct call call;
     uint64_t before = tally.differences;
@@ -273,7 +281,7 @@ void header_make(void)
     if (tally.differences == 0)
         compare_cycle();
     make_calls();
-    beyond_largest_modulus();
+    compare_largest_modulus();
     compare_routes();
     compare_work_places();
     compare_text_bytes();

@@ -70,31 +70,25 @@ fn depth(random: &mut Random, power: u64) -> Vec<String> {
     ]
 }
 
-/// A modulus above the largest is refused, prime or not, so `isPrime` stays shut. Of the largest, primality decides: it is too large to be
-/// computed by the definition, and the second implementation says it.
+/// A modulus above the largest is refused, prime or not, so `isPrime` stays shut. Up to the largest, primality decides: the numbers are too
+/// large for it to be computed by the definition, and the second implementation says it.
 fn moduli() -> Vec<Law> {
     const SHUT: &[&str] = &["isPrime"];
     let largest = primes::LARGEST_MODULUS;
     let refusal = |p| format!("openRefusal {p} 1 1 ≡ {}", refusals::open(p, 1, 1));
     let next = (largest + 1..).find(|&p| primes::is_prime(p)).expect("a prime above the largest");
-    let top = (0..1 << 32).rev().find(|&p| primes::is_prime(p)).expect("a prime below 2^32");
     let mut laws: Vec<Law> =
-        [largest + 1, next, top].map(|p| Law::over(SHUT, refusal(p))).into_iter().collect();
+        [largest + 1, next].map(|p| Law::over(SHUT, refusal(p))).into_iter().collect();
     laws.push(Law::over(SHUT, format!("largestModulus ≡ {largest}")));
-    laws.push(Law {
-        statement: format!(
-            "isPrime {largest} ≡ {} → {}",
-            primes::is_prime(largest),
-            refusal(largest)
-        ),
-        proof: String::from("λ told. rw told"),
-        shut: SHUT,
-    });
+    for p in primes::LARGE_PRIMES.into_iter().chain([1 << 31, largest]) {
+        let statement = format!("isPrime {p} ≡ {} → {}", primes::is_prime(p), refusal(p));
+        laws.push(Law { statement, proof: String::from("λ told. rw told"), shut: SHUT });
+    }
     laws
 }
 
 /// How many primes the table holds, and below which number; the search for them stays shut.
 fn table() -> Law {
-    let (count, bound) = (primes::TABLE_LENGTH, primes::LARGEST_MODULUS + 1);
+    let (count, bound) = (primes::TABLE_LENGTH, 1u64 << 31);
     Law::over(&["primesBelow"], format!("primeTable ≡ primesBelow {count} {bound}"))
 }

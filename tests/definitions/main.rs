@@ -20,9 +20,9 @@ use plain::random::Random;
 use std::path::Path;
 use written::Law;
 
-/// What the laws unfold besides the definitions: counts of binary digits; for the entries of the table, the table written out.
+/// What the laws unfold besides the definitions: counts of binary digits; where the theorems of `primes` are used, the table written out.
 const COUNTS: &[&str] = &["lib.Count.ones", "lib.Count.onesIn", "lib.Count.leadingZeros"];
-const WRITTEN_OUT: &[&str] = &["Rattle.primes.specs.Table.table"];
+const WRITTEN_OUT: &str = "Rattle.primes.specs.Table.table";
 
 fn computed(equations: Vec<String>) -> Vec<Law> {
     equations.into_iter().map(Law::computed).collect()
@@ -33,13 +33,14 @@ fn main() {
     let (definitions, folder) = (&words[1], Path::new(&words[2]));
     let seed = words.get(3).map_or(1, |word| word.parse().expect("the seed is a number"));
     let mut random = Random::new(seed);
+    let with_table = [COUNTS, &[WRITTEN_OUT]].concat();
     let crates = [
         ("rows", COUNTS, computed(rows::all(&mut random))),
         ("steps", COUNTS, computed(steps::all(&mut random))),
         ("files", COUNTS, computed(files::all(&mut random))),
         ("promises", COUNTS, promises::all(&mut random)),
         ("limits", COUNTS, limits::all(&mut random)),
-        ("entries", WRITTEN_OUT, entries::all()),
+        ("entries", &with_table, entries::all(&mut random)),
     ];
     for (name, besides, laws) in crates {
         written::write(&folder.join(name), definitions, besides, &laws)

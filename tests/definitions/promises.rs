@@ -10,15 +10,20 @@ use crate::written::Law;
 pub fn all(random: &mut Random) -> Vec<Law> {
     let mut laws = Vec::new();
     for route in 0..6 {
-        laws.push(compose(random, route, 1 + route as usize % 2));
+        let p = random.pick(&PRIMES);
+        laws.push(compose(random, p, route, 1 + route as usize % 2));
     }
-    laws.push(compose(random, 2, 0));
+    laws.push(compose(random, 7, 2, 0));
     for fault in 0..4 {
-        laws.extend((0..4).map(|_| opening(random, fault)));
-        laws.extend((0..4).map(|_| rendering(random, fault)));
+        for _ in 0..4 {
+            let p = random.pick(&PRIMES);
+            laws.push(opening(random, p, fault));
+            laws.push(rendering(random, fault));
+        }
     }
     for done in [0, 1, 62, 63, 64, 65] {
-        laws.push(cycle(random, done));
+        let p = random.pick(&PRIMES);
+        laws.push(cycle(random, p, done));
     }
     for index in 16..20 {
         laws.push(table(index));
@@ -27,9 +32,17 @@ pub fn all(random: &mut Random) -> Vec<Law> {
     laws
 }
 
+/// Accepted calls with this modulus: compose by every route, an opening and a cycle.
+pub fn accepted(random: &mut Random, p: u64) -> Vec<Law> {
+    let mut laws: Vec<Law> = (1..=4).map(|route| compose(random, p, route, 1)).collect();
+    laws.push(opening(random, p, 0));
+    laws.push(cycle(random, p, 0));
+    laws
+}
+
 /// Routes 0 and 5 are refused. The work lent is one place short for 0, exact for 1, one place more for 2.
-fn compose(random: &mut Random, route: u64, lent: usize) -> Law {
-    let (p, n) = (random.pick(&PRIMES), 1);
+fn compose(random: &mut Random, p: u64, route: u64, lent: usize) -> Law {
+    let n = 1;
     let (f, g) = (random.list(p, 2), random.list(p, 2));
     let places = refusals::work_places(n, f.len()) as usize + lent - 1;
     let (before, work_before) = (random.buffer(1), random.buffer(places));
@@ -43,10 +56,9 @@ fn compose(random: &mut Random, route: u64, lent: usize) -> Law {
 }
 
 /// An opening: in order, or with a modulus that is not prime, an order of 0, or a place too many.
-fn opening(random: &mut Random, fault: u64) -> Law {
-    let (prime, order) = (random.pick(&PRIMES), 1 + random.below(3));
+fn opening(random: &mut Random, prime: u64, fault: u64) -> Law {
     let p = if fault == 1 { prime * prime } else { prime };
-    let n = if fault == 2 { 0 } else { order };
+    let n = if fault == 2 { 0 } else { 1 + random.below(3) };
     let before = random.buffer((n + u64::from(fault == 3)) as usize);
     let mut series = before.clone();
     let (chain, answer) = Chain::open(p, n, &mut series);
@@ -58,8 +70,8 @@ fn opening(random: &mut Random, fault: u64) -> Law {
 }
 
 /// A cycle of a chain with so many done.
-fn cycle(random: &mut Random, done: u64) -> Law {
-    let (route, modulus, n) = (random.route(), random.pick(&PRIMES), random.count(1, 2));
+fn cycle(random: &mut Random, modulus: u64, done: u64) -> Law {
+    let (route, n) = (random.route(), random.count(1, 2));
     let (mut c, mut before) = (random.list(modulus, 2), random.list(modulus, n));
     c[0] = 0;
     before[0] = 0;

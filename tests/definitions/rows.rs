@@ -5,7 +5,17 @@ use crate::plain::{
     chain::Chain, primes, refusals, render, reversion, substitution, taylor, weights,
 };
 
+/// Primes that the prover tests by the definition.
 pub const PRIMES: [u64; 5] = [2, 3, 5, 7, 11];
+
+/// A modulus where no law tests it: one of these, or above 2^31.
+pub fn untested(random: &mut Random) -> u64 {
+    if random.once_in(3) {
+        random.large_prime()
+    } else {
+        random.pick(&PRIMES)
+    }
+}
 
 /// A list as the definitions write it.
 pub fn list<T: std::fmt::Display>(places: &[T]) -> String {
@@ -38,7 +48,7 @@ pub fn all(random: &mut Random) -> Vec<String> {
 }
 
 fn weight(random: &mut Random) -> Vec<String> {
-    let (p, n, m) = (random.pick(&PRIMES), 1 + random.below(9), random.below(14));
+    let (p, n, m) = (untested(random), 1 + random.below(9), random.below(14));
     let rule = |route| weights::by_number(route, p, m, n, 4);
     (1..=4).map(|route| format!("weight {route} {p} {n} {m} ≡ {}", rule(route))).collect()
 }
@@ -49,7 +59,7 @@ fn block_lengths(random: &mut Random) -> String {
 }
 
 fn composition(random: &mut Random) -> Vec<String> {
-    let (p, n) = (random.pick(&PRIMES), random.count(1, 4));
+    let (p, n) = (untested(random), random.count(1, 4));
     let (outer, inner) = (random.count(0, 4), random.count(0, 5));
     let (f, g) = (random.list(p, outer), random.list(p, inner));
     let shown = format!("{p} {n} {} {}", list(&f), list(&g));
@@ -59,16 +69,20 @@ fn composition(random: &mut Random) -> Vec<String> {
     ]
 }
 
-/// g(h) and h(g) are x for the h of the second implementation; where there is none, the number is 9.
+/// g(h) and h(g) are x for the h of the second implementation; where there is none, the number is 9. The number tests the modulus, so it is
+/// computed for a small one only.
 fn reverse(random: &mut Random) -> Vec<String> {
-    let (p, n, count) = (random.pick(&PRIMES), random.count(1, 4), random.count(0, 4));
+    let (p, n, count) = (untested(random), random.count(1, 4), random.count(0, 4));
     let mut g = random.list(p, count);
     if let Some(constant) = g.first_mut() {
         *constant = if random.once_in(4) { random.coefficient(p) } else { 0 };
     }
     let work = refusals::work_places(n as u64, g.len());
     let number = refusals::reverse(p, n as u64, &g, n, work as usize);
-    let mut equations = vec![format!("reverseRefusal {p} {n} {} {n} {work} ≡ {number}", list(&g))];
+    let mut equations = Vec::new();
+    if PRIMES.contains(&p) {
+        equations.push(format!("reverseRefusal {p} {n} {} {n} {work} ≡ {number}", list(&g)));
+    }
     if number == 0 {
         let (h, g) = (list(&reversion::reverse(p, &g, n)), list(&g));
         equations.push(format!("composed {p} {n} {g} {h} ≡ identity {n}"));
@@ -78,7 +92,7 @@ fn reverse(random: &mut Random) -> Vec<String> {
 }
 
 fn running(random: &mut Random) -> String {
-    let (p, n) = (random.pick(&[2, 3, 5]), random.count(1, 3));
+    let (p, n) = (untested(random), random.count(1, 3));
     let mut series = vec![0; n];
     let mut work = vec![0; 1000];
     let (mut chain, _) = Chain::open(p, n as u64, &mut series);

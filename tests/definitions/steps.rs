@@ -3,7 +3,7 @@
 use crate::plain::counts::quotient_rounded_up;
 use crate::plain::random::Random;
 use crate::plain::{field, primes, products, refusals, render, routes};
-use crate::rows::{list, PRIMES};
+use crate::rows::{list, untested, PRIMES};
 
 pub fn all(random: &mut Random) -> Vec<String> {
     let mut equations = Vec::new();
@@ -21,7 +21,7 @@ pub fn all(random: &mut Random) -> Vec<String> {
 
 /// Horner's step, the cut product, the power and the join.
 fn one_variable(random: &mut Random) -> Vec<String> {
-    let (p, n, e) = (random.pick(&PRIMES), random.count(1, 4), random.count(0, 3));
+    let (p, n, e) = (untested(random), random.count(1, 4), random.count(0, 3));
     let [s, t, u] = [0; 3].map(|_| random.list(p, n));
     let c = random.coefficient(p);
     let product = products::product(p, &t, &u, n).0;
@@ -37,7 +37,7 @@ fn one_variable(random: &mut Random) -> Vec<String> {
     ]
 }
 
-/// Blocks of route 2; parts, p-th powers and spreading of route 3.
+/// Blocks of route 2; parts, p-th powers and spreading of route 3, for a small p: the powers are computed as they are defined.
 fn parts(random: &mut Random) -> Vec<String> {
     let (p, n, count) = (random.pick(&PRIMES), random.count(1, 9), random.count(0, 9));
     let (f, length) = (random.list(p, count), random.count(1, 5));
@@ -57,7 +57,7 @@ fn parts(random: &mut Random) -> Vec<String> {
 /// A window of a product in two variables, each factor in rows of r places.
 fn two_variables(random: &mut Random) -> Vec<String> {
     let (p, r, low, count) =
-        (random.pick(&PRIMES), random.count(1, 3), random.count(0, 2), random.count(1, 3));
+        (untested(random), random.count(1, 3), random.count(0, 2), random.count(1, 3));
     let [a, b] = [0; 2].map(|_| vec![random.list(p, r), random.list(p, r)]);
     let kept = products::product_in_two_variables(p, &a, &b, r, low..low + count).0;
     let product = format!(
@@ -70,7 +70,7 @@ fn two_variables(random: &mut Random) -> Vec<String> {
 
 /// a(-x, y), the even powers of x, x² for x; P and Q.
 fn rows(random: &mut Random) -> Vec<String> {
-    let (p, r) = (random.pick(&PRIMES), random.count(1, 5));
+    let (p, r) = (untested(random), random.count(1, 5));
     let (row, half) = (random.list(p, r), quotient_rounded_up(r, 2));
     let even: Vec<u32> = row.iter().step_by(2).copied().collect();
     let negated: Vec<u32> = row.iter().map(|&c| field::subtract(p, 0, c)).collect();
@@ -94,7 +94,7 @@ fn rows(random: &mut Random) -> Vec<String> {
 }
 
 fn division(random: &mut Random) -> String {
-    let (p, count) = (random.pick(&PRIMES), random.count(1, 5));
+    let (p, count) = (untested(random), random.count(1, 5));
     let (a, mut b) = (random.list(p, count), random.list(p, 3));
     b[0] = 1;
     let quotient = products::quotient(p, &a, &b);

@@ -7,6 +7,7 @@ use crate::checks::library::{Call, Input};
 use crate::checks::support::{modulus, seen, Tally};
 use crate::compare::same;
 use crate::plain::chain::Chain;
+use crate::plain::primes::LARGE_PRIMES;
 use crate::plain::random::Random;
 
 const CHAINS: usize = 6;
@@ -14,8 +15,9 @@ const CALLS: usize = 100;
 
 pub fn larger_orders(tally: &mut Tally, random: &mut Random) {
     let (mut refused, mut full, tests) = (0, 0, Call::Cycle.tests());
-    for _ in 0..CHAINS {
-        let (p, n) = (modulus(random), random.count(20, 60));
+    for number in 0..CHAINS {
+        let p = LARGE_PRIMES.get(number).copied().unwrap_or_else(|| modulus(random));
+        let n = random.count(20, 60);
         let (mut chain, mut running) = opened(tally, random, p, n);
         for _ in 0..CALLS {
             let mut input = cycle_input(random, chain, &running);

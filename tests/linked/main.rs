@@ -26,7 +26,7 @@ use compare::Both;
 use program::Built;
 use std::process::ExitCode;
 
-const GROUPS: [(&str, Check); 50] = [
+const GROUPS: [(&str, Check); 53] = [
     ("settled examples", settled::examples::<Both>),
     ("edges", settled::edges::<Both>),
     ("every small shape", shapes::every_small),
@@ -34,7 +34,9 @@ const GROUPS: [(&str, Check); 50] = [
     ("order 4096, short outer lists", shapes::largest_order),
     ("outer lists of 4096 places, small orders", shapes::longest_outer_list),
     ("order 4096 and 4096 places, route 4", shapes::largest_of_both),
-    ("largest prime, largest coefficients", shapes::largest_coefficients),
+    ("primes above 2^31", shapes::large_primes),
+    ("primes above 2^31, largest coefficients", shapes::largest_coefficients),
+    ("primes above 2^31, largest coefficients, large orders", shapes::largest_coefficients_closed),
     ("trap: f cut to n terms", traps::outer_cut),
     ("trap: order rounded down", traps::order_rounded_down),
     ("trap: d fixed", traps::window_fixed),
@@ -68,6 +70,7 @@ const GROUPS: [(&str, Check); 50] = [
     ("rendering: the longest text", render::longest::<Both>),
     ("program: whole case", settled::whole_case::<Built>),
     ("program: job files", job::job::<Built>),
+    ("program: primes above 2^31", job::large_primes::<Built>),
     ("program: every beginning of a file", job::beginnings::<Built>),
     ("program: overlapping lists", job::overlaps::<Built>),
     ("program: offsets far past the file", job::far_offsets::<Built>),

@@ -4,13 +4,13 @@
 use crate::checks::library::{Call, Input};
 use crate::checks::support::{seen, Tally};
 use crate::compare::same;
+use crate::plain::primes::LARGEST_PRIME;
 use crate::plain::random::Random;
 
 const LARGEST_WORD: u64 = u32::MAX as u64;
 
-/// Below 2^31 - 1, which is prime, 2147483629 is the next prime; 46337, 2147483659 and 4294967291
-/// are primes.
-const MODULI: [(u64, u32); 15] = [
+/// 46337 and 65521 are primes, and so are the moduli that are accepted.
+const MODULI: [(u64, u32); 22] = [
     (0, 2),
     (1, 2),
     (2, 0),
@@ -23,8 +23,15 @@ const MODULI: [(u64, u32); 15] = [
     (2_147_483_646, 2),
     (2_147_483_647, 0),
     (2_147_483_648, 2),
-    (2_147_483_659, 2),
-    (4_294_967_291, 2),
+    (2_147_483_659, 0),
+    (65_521 * 65_521, 2),
+    (4_294_967_279, 0),
+    (4_294_967_289, 2),
+    (4_294_967_290, 2),
+    (LARGEST_PRIME, 0),
+    (4_294_967_292, 2),
+    (4_294_967_293, 2),
+    (4_294_967_294, 2),
     (LARGEST_WORD, 2),
 ];
 
@@ -131,7 +138,7 @@ impl Edges<'_> {
     /// Number 8, at the first, the middle and the last place of this list. A largest coefficient at
     /// the first place is a constant term, for which the call may have a number of its own.
     fn of_coefficients(&mut self, list: Selected, constant: u32) {
-        for p in [2, 7, 2_147_483_647] {
+        for p in [2, 7, 2_147_483_647, LARGEST_PRIME] {
             let count = list(&mut self.base).len();
             for place in [0, count / 2, count - 1] {
                 let below = if place == 0 { constant } else { 0 };
@@ -186,7 +193,7 @@ pub fn reverse(tally: &mut Tally, random: &mut Random) {
     edges.of_length(5, inner);
     edges.of_work();
     edges.of_coefficients(inner, 9);
-    for p in [2, 7, 2_147_483_647] {
+    for p in [2, 7, 2_147_483_647, LARGEST_PRIME] {
         for (n, series, number) in [
             (1, vec![], 0),
             (1, vec![0], 0),

@@ -5,7 +5,7 @@ use crate::checks::reversion::{identity, reversible};
 use crate::checks::support::{lists_up_to, modulus, seen, weight, Case, Tally};
 use crate::compare::{composed, reversed, same};
 use crate::linked::Linked;
-use crate::plain::primes::LARGEST_MODULUS;
+use crate::plain::primes::{LARGEST_PRIME, LARGE_PRIMES};
 use crate::plain::random::Random;
 use crate::plain::{field, refusals, reversion, routes};
 
@@ -40,7 +40,7 @@ fn one(tally: &mut Tally, random: &mut Random, p: u64, n: usize, count: usize) {
 
 /// Every order up to 40, and those around larger powers of 2, with short, whole and longer series.
 pub fn orders(tally: &mut Tally, random: &mut Random) {
-    for p in [2, 3, 5, 7, LARGEST_MODULUS] {
+    for p in [2, 3, 5, 7, 2_147_483_647].into_iter().chain(LARGE_PRIMES) {
         for n in (1..=40).chain(63..=66).chain(127..=130) {
             for count in [2, 3, n, n + 1, n + 5] {
                 one(tally, random, p, n, count);
@@ -60,7 +60,7 @@ pub fn random_series(tally: &mut Tally, random: &mut Random) {
 /// Order 4096. The second implementation is quick for short series. The reverse of ax/(1 - bx), all
 /// of whose places are in use, is x/(a + bx).
 pub fn largest_order(tally: &mut Tally, random: &mut Random) {
-    for p in [2, LARGEST_MODULUS] {
+    for p in [2, LARGEST_PRIME] {
         one(tally, random, p, LARGEST_ORDER, 4);
         let (a, b) = (random.non_zero(p), random.non_zero(p));
         let inverse = field::inverse(p, a);
@@ -81,7 +81,7 @@ fn geometric(p: u64, first: u32, ratio: u32, n: usize) -> Vec<u32> {
 /// Order 4096 and a series of 4096 random places. The second implementation's own reverse takes too
 /// long there; its route 4 and that of the library confirm g(h) = x and h(g) = x.
 pub fn largest_of_both(tally: &mut Tally, random: &mut Random) {
-    let (p, n) = (LARGEST_MODULUS, LARGEST_ORDER);
+    let (p, n) = (LARGEST_PRIME, LARGEST_ORDER);
     let g = reversible(random, p, n);
     let mut input = Input { p, n: n as u64, inner: g.clone(), ..Input::default() };
     input.out = random.buffer(n);

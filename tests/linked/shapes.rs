@@ -2,7 +2,9 @@
 
 use crate::checks::support::{weight, Case, Tally};
 use crate::compare::composed;
-use crate::plain::primes::LARGEST_MODULUS;
+use crate::plain::field;
+use crate::plain::primes::{LARGEST_PRIME, LARGE_PRIMES};
+use crate::plain::products::places;
 use crate::plain::random::Random;
 use crate::plain::routes::{self, by_number};
 use crate::plain::substitution::substitution;
@@ -72,7 +74,7 @@ fn by_rule(tally: &mut Tally, random: &mut Random, case: &Case, numbers: &[u64])
 }
 
 pub fn largest_order(tally: &mut Tally, random: &mut Random) {
-    for p in [2, 7, LARGEST_MODULUS] {
+    for p in [2, 7, LARGEST_PRIME] {
         for m in [0, 1, 2, 3, 5, 9, 18] {
             let (f, g) = (random.list(p, m), sparse(random, p));
             by_rule(tally, random, &Case { p, n: 4096, f, g }, &[1, 2, 3, 4]);
@@ -83,7 +85,7 @@ pub fn largest_order(tally: &mut Tally, random: &mut Random) {
 }
 
 pub fn longest_outer_list(tally: &mut Tally, random: &mut Random) {
-    for p in [2, 3, 7, LARGEST_MODULUS] {
+    for p in [2, 3, 7, LARGEST_PRIME] {
         for n in 1..=5 {
             for m in [4093, 4096] {
                 let (f, g) = (random.list(p, m), random.list(p, n));
@@ -94,17 +96,74 @@ pub fn longest_outer_list(tally: &mut Tally, random: &mut Random) {
 }
 
 pub fn largest_of_both(tally: &mut Tally, random: &mut Random) {
-    for p in [3, LARGEST_MODULUS] {
+    for p in [3, LARGEST_PRIME] {
         let (f, g) = (random.list(p, 4096), sparse(random, p));
         by_rule(tally, random, &Case { p, n: 4096, f, g }, &[4]);
     }
 }
 
-pub fn largest_coefficients(tally: &mut Tally, random: &mut Random) {
-    let p = LARGEST_MODULUS;
-    for (n, m) in [(1, 1), (2, 9), (33, 300), (300, 33), (257, 257)] {
-        let top = (p - 1) as u32;
-        let case = Case { p, n, f: vec![top; m], g: vec![top; n + 1] };
-        by_rule(tally, random, &case, &[1, 2, 3, 4]);
+/// Primes above 2^31 on shapes of several kinds.
+pub fn large_primes(tally: &mut Tally, random: &mut Random) {
+    for p in LARGE_PRIMES {
+        for n in [1, 2, 3, 5, 8, 17, 64] {
+            for m in [0, 1, 2, 4, 5, 9, 33] {
+                for g in inner_lists(random, p, n) {
+                    let f = random.list(p, m);
+                    all_routes(tally, random, &Case { p, n, f, g });
+                }
+            }
+        }
     }
+}
+
+/// Lists whose coefficients are all p - 1.
+fn all_largest(p: u64, n: usize, m: usize) -> Case {
+    let largest = (p - 1) as u32;
+    Case { p, n, f: vec![largest; m], g: vec![largest; n] }
+}
+
+pub fn largest_coefficients(tally: &mut Tally, random: &mut Random) {
+    for p in LARGE_PRIMES {
+        for (n, m) in [(1, 1), (2, 9), (33, 300), (300, 33), (257, 257)] {
+            let case = all_largest(p, n, m);
+            by_rule(tally, random, &case, &[1, 2, 3, 4]);
+            let value = substitution(p, &case.f, &case.g, n);
+            tally.equal((p, n, m, "closed form"), closed_form(p, n, m), value);
+        }
+    }
+}
+
+/// Orders at which the second implementation takes too long: the closed form says the value.
+pub fn largest_coefficients_closed(tally: &mut Tally, random: &mut Random) {
+    for p in LARGE_PRIMES {
+        for (n, numbers) in [(1024, &[1, 2, 3][..]), (4096, &[4])] {
+            let (case, value) = (all_largest(p, n, n), closed_form(p, n, n));
+            for &number in numbers {
+                composed(tally, random, number, &case, &value, weight(number, p, n, n));
+            }
+        }
+    }
+}
+
+/// f(g) modulo x^n where all coefficients, m of f and n of g, are -1. There g is -1/(1 - x) and f is
+/// (z^m - 1)/(1 - z), so f(g) is (g^m - 1)(1 - x)/(2 - x), and g^m(1 - x) is (1 - x)^(1 - m) with the
+/// sign of (-1)^m.
+fn closed_form(p: u64, n: usize, m: usize) -> Vec<u32> {
+    let mut value = places(&[1], n);
+    for _ in 1..m {
+        // over 1 - x
+        for k in 1..n {
+            value[k] = field::add(p, value[k], value[k - 1]);
+        }
+    }
+    let half = field::inverse(p, 2);
+    let mut before = 0;
+    for (k, place) in value.iter_mut().enumerate() {
+        let signed = if m % 2 == 0 { *place } else { field::subtract(p, 0, *place) };
+        let less = [1, (p - 1) as u32].get(k).copied().unwrap_or(0);
+        let numerator = field::subtract(p, signed, less);
+        before = field::multiply(p, field::add(p, numerator, before), half);
+        *place = before;
+    }
+    value
 }

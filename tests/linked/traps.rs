@@ -2,7 +2,7 @@
 //! mistaken reading gives.
 
 use crate::checks::reversion::{identity, reversible};
-use crate::checks::support::{add_power, seen, weight, Case, Tally};
+use crate::checks::support::{add_power, modulus, seen, weight, Case, Tally};
 use crate::checks::traps::{joined_parts, one_level_down};
 use crate::compare::composed;
 use crate::plain::counts::quotient_rounded_up;
@@ -88,7 +88,7 @@ pub fn lagrange(tally: &mut Tally, random: &mut Random) {
 /// answer as it is; to the power before that, it does not.
 pub fn constant_term_counted(tally: &mut Tally, random: &mut Random) {
     for _ in 0..CASES {
-        let p = random.pick(&[2, 3, 5, 7, 2_147_483_647]);
+        let p = modulus(random);
         let (n, v) = (random.count(1, 9), random.count(1, 4));
         let c = random.non_zero(p);
         let g = [vec![c], vec![0; v - 1], vec![random.non_zero(p)]].concat();

@@ -10,7 +10,7 @@ use checks::support::{run, Check};
 use checks::{calls, chain, equality, job, primes, render, reversion, routes, settled, traps};
 use std::process::ExitCode;
 
-const GROUPS: [(&str, Check); 30] = [
+const GROUPS: [(&str, Check); 31] = [
     ("settled examples", settled::examples::<Plain>),
     ("whole case", settled::whole_case::<Plain>),
     ("edges", settled::edges::<Plain>),
@@ -38,6 +38,7 @@ const GROUPS: [(&str, Check); 30] = [
     ("rendering: powers of ten", render::powers_of_ten::<Plain>),
     ("rendering: the longest text", render::longest::<Plain>),
     ("job file", job::job::<Plain>),
+    ("job file: primes above 2^31", job::large_primes::<Plain>),
     ("job file: every beginning", job::beginnings::<Plain>),
     ("job file: overlapping lists", job::overlaps::<Plain>),
     ("job file: offsets far past the file", job::far_offsets::<Plain>),

@@ -41,7 +41,7 @@ def shown(file):
 
 def plain_file(source):
     """A seeded file in the plain layout, accepted or not."""
-    modulus = source.choice([0, 1, 2, 6, 7, 7, 2**31 - 1, 2**31 - 1, 2**31, 2**32 - 1])
+    modulus = source.choice([0, 1, 2, 6, 7, 7, 2**31 - 1, 2**31, 2147483659, 4294967279, 4294967289, 4294967291, 2**32 - 1])
     most = source.choice([1, max(modulus, 1), max(modulus, 1), 2**32])
     counts = [source.choice([0, 1, 2, 3, 5, 63, 64, 65]) for _ in range(2)]
     outer, inner = ([source.randrange(most) for _ in range(count)] for count in counts)
@@ -54,7 +54,7 @@ def other_file(source):
     """A seeded file with any layout: overlaps, spare bytes, lists out of place."""
     small = lambda: source.choice([0, 1, 2, 3, 5, 5, 64, 65 if source.randrange(4) else source.getrandbits(32)])
     offset = lambda: source.choice([27, 28, 28, 29, 30, 32, 40, 60, source.randrange(28), source.getrandbits(32)])
-    header = [source.randrange(6), source.choice([2, 5, 7, 251, 2**31 - 1]), source.choice([1, 3, 8, 64, 65])]
+    header = [source.randrange(6), source.choice([2, 5, 7, 251, 2**31 - 1, 4294967291]), source.choice([1, 3, 8, 64, 65])]
     header += [small(), offset(), small(), offset()]
     return struct.pack("<7I", *header) + source.randbytes(source.choice([0, 1, 12, 40, 300, 4068, 4069]))
 
@@ -83,6 +83,11 @@ class Written(unittest.TestCase):
         for route, name in enumerate(["horner", "ranged", "bernstein", "kinoshita-li"], 1):
             self.assertEqual(written(WHOLE.replace("route 1", f"route {name}"))[:4], struct.pack("<I", route))
 
+    def test_primes_above_2_to_the_31(self):
+        for prime in (2147483659, 4294967279, 4294967291):
+            words = WHOLE.replace("modulus 7", f"modulus {prime}")
+            self.assertEqual(run("write", "-", words), (0, WHOLE_FILE[:4] + struct.pack("<I", prime) + WHOLE_FILE[8:], ""))
+
     def test_layouts(self):
         begin = "route 1 modulus 7 order 4 "
         overlapping = written(begin + "outer 1 2 3 inner 2 3 inner-offset 32")
@@ -98,7 +103,7 @@ class Written(unittest.TestCase):
         for words, number, why in [
             (WHOLE.replace("route 1", "route 9"), 1, "the route is 9"),
             (WHOLE.replace("modulus 7", "modulus 6"), 2, "the modulus 6 is no prime"),
-            (WHOLE.replace("modulus 7", "modulus 2147483659"), 2, "above 2147483647"),
+            (WHOLE.replace("modulus 7", "modulus 4294967295"), 2, "the modulus 4294967295 is no prime"),
             (WHOLE.replace("order 4", "order 0"), 3, "the order is 0"),
             (WHOLE.replace("0 1 1", "0 7 1"), 8, "the inner coefficient of power 1 is 7, not below the modulus 7"),
             (WHOLE.replace("order 4", "order 65"), 12, "the order is 65, more than 64"),

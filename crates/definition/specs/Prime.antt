@@ -2,7 +2,7 @@
 --
 --   Prime p     p is above 1, and no number above 1 but p divides it
 --   isPrime p   the same as a Boolean test: no number from 2 to p - 1 leaves remainder 0
---   largestModulus   2147483647, the largest modulus that is taken
+--   largestModulus   4294967295, the largest modulus that is taken
 use Prim.Native.Nat.{ℕ, zero, suc, _+_, _-_, _%_, _^_, _<_, _∣_}
 use mathlib.Core.Path.{_≡_}
 use mathlib.Core.Bool.{Bool, true, not, _&&_}
@@ -21,4 +21,4 @@ unfoldable pub isPrime : ℕ → Bool
 isPrime p = ltb 1 p && indivisible p (p - 2)
 
 unfoldable pub largestModulus : ℕ
-largestModulus = 2 ^ 31 - 1
+largestModulus = 2 ^ 32 - 1

@@ -45,7 +45,7 @@ pub fn is_prime(p: u32) -> bool
 
 impl Field {
     // The largest modulus.
-    pub const LARGEST: u32 = 2147483647;
+    pub const LARGEST: u32 = 4294967295;
 
     // The field of modulus `p`, for a prime up to the largest modulus.
     pub fn new(p: u32) -> Opened

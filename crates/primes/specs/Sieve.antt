@@ -39,7 +39,7 @@ trial-isPrime q e low high (suc k) d (suc r) t m at =
     trial-isPrime q e low high k (d + 2) (q % (d + 2)) (tried-next t (λ z. omega arith)) refl (omega arith)
 
 abbrev tries : ℕ
-tries = 23169
+tries = 32767
 
 abbrev pub reach : ℕ
 reach = 3 + 2 * tries

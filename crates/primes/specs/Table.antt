@@ -19,7 +19,7 @@ use Rattle.primes.specs.Sieve.{Next, composites, oddTrial, quick, reach,
 
 unfoldable pub table : List ℕ
 table =
-    (tableBound - 1)
+    2147483647
     ∷ 2147483629
     ∷ 2147483587
     ∷ 2147483579
@@ -55,7 +55,7 @@ unfolding table
 next i l = sieved-next tableBound table within tested i l
 
 written : TableRule table
-unfolding table
+unfolding table tableBound
 written =
     record {
       sixteen = refl;

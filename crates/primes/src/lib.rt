@@ -1,10 +1,9 @@
 // The sixteen largest primes below 2147483648.
-use field::Field;
 ghost use Rattle.definition.specs.Calls.{Table};
 
-// Largest first; entry 0 is the largest modulus.
+// Largest first.
 const TABLE: [u32; 16] = [
-    Field::LARGEST,
+    2147483647,
     2147483629,
     2147483587,
     2147483579,

@@ -8,9 +8,9 @@ use super::support::modulus;
 use crate::plain::random::Random;
 use crate::plain::refusals::{self, Tests};
 
-/// Numbers that are no modulus: composite, or above the largest. 46337 is prime, and so are
-/// 2147483659 and 4294967291.
-pub const UNFIT_MODULI: [u64; 10] = [
+/// Numbers of 32 bits that are no modulus: no prime. 46337, 65521 and 65537 are primes, and 65521^2
+/// is the largest square of a prime that fits; from 4294967292 on no prime does.
+pub const UNFIT_MODULI: [u64; 14] = [
     0,
     1,
     4,
@@ -18,8 +18,12 @@ pub const UNFIT_MODULI: [u64; 10] = [
     46_337 * 46_337,
     2_147_483_645,
     2_147_483_648,
-    2_147_483_659,
-    4_294_967_291,
+    65_521 * 65_521,
+    65_521 * 65_537,
+    4_294_967_289,
+    4_294_967_292,
+    4_294_967_293,
+    4_294_967_294,
     4_294_967_295,
 ];
 

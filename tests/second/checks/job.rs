@@ -1,10 +1,11 @@
 //! The job program: files written from known lists, whole or broken on purpose, and what is
 //! printed for them.
 
-use super::broken::{first, put_too_large, rising, some};
+use super::broken::{first, put_too_large, rising, some, UNFIT_MODULI};
 use super::library::Program;
 use super::render::{accepted_text, refused_text};
 use super::support::{modulus, weight, Tally};
+use crate::plain::primes::LARGE_PRIMES;
 use crate::plain::random::Random;
 use crate::plain::refusals::JOB;
 use crate::plain::substitution::substitution;
@@ -67,7 +68,7 @@ impl File {
         let end = 28 + self.rest.len() as u32;
         match number {
             1 => self.header[ROUTE] = random.pick(&[0, 5, 257, u32::MAX]),
-            2 => self.header[MODULUS] = random.pick(&[0, 1, 9, 2_147_483_648, 4_294_967_291]),
+            2 => self.header[MODULUS] = random.pick(&UNFIT_MODULI) as u32,
             3 => self.header[ORDER] = 0,
             12 => match random.below(3) {
                 0 => self.rest.resize(4096 - 28 + random.count(1, 40), 0),
@@ -142,6 +143,23 @@ fn written<P: Program>(tally: &mut Tally, random: &mut Random, broken: &[u32]) {
 /// The printed answer of an accepted job, by the definition of substitution and the rule of the weight.
 fn composed_text(route: u64, p: u64, n: usize, f: &[u32], g: &[u32]) -> Vec<u8> {
     accepted_text(n as u64, weight(route, p, f.len(), n), &substitution(p, f, g, n))
+}
+
+/// Primes above 2^31 by every route, with any and with the largest coefficients; a modulus that is no
+/// prime gives 2.
+pub fn large_primes<P: Program>(tally: &mut Tally, random: &mut Random) {
+    for (p, route) in LARGE_PRIMES.into_iter().flat_map(|p| (1..=4).map(move |route| (p, route))) {
+        let largest = vec![(p - 1) as u32; 64];
+        for (f, g) in [(random.list(p, 24), random.list(p, 24)), (largest.clone(), largest)] {
+            let n = random.count(1, 64);
+            let file = File::write(random, [route as u32, p as u32, n as u32], &f, &g);
+            tally.equal(&file, P::answer(&file.bytes()), composed_text(route, p, n, &f, &g));
+        }
+    }
+    for p in UNFIT_MODULI {
+        let file = File::write(random, [1, p as u32, 4], &[0, 1], &[0]);
+        tally.equal(&file, P::answer(&file.bytes()), refused_text(2));
+    }
 }
 
 /// Every beginning of a file: 13 until the header and both lists lie in it, then the whole answer.

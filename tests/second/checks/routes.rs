@@ -3,6 +3,7 @@
 use super::library::Plain;
 use super::support::{compose, weight, Case, Tally};
 use crate::plain::calls::Answer;
+use crate::plain::primes::LARGEST_PRIME;
 use crate::plain::random::Random;
 use crate::plain::{routes, substitution::substitution, weights};
 
@@ -35,7 +36,7 @@ pub fn block_lengths(tally: &mut Tally, random: &mut Random) {
 
 /// A few larger cases, where each route has several levels.
 pub fn larger_cases(tally: &mut Tally, random: &mut Random) {
-    for p in [2, 3, 7, 2_147_483_647] {
+    for p in [2, 3, 7, 2_147_483_647, LARGEST_PRIME] {
         for (n, m) in [(64, 63), (65, 200), (150, 40), (1, 300), (200, 2)] {
             let case = Case { p, n, f: random.list(p, m), g: random.list(p, n) };
             let value = substitution(p, &case.f, &case.g, n);

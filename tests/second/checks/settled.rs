@@ -1,10 +1,13 @@
 //! The values that the statement settles: the twelve examples, the whole case and the edges.
 
 use super::library::{Library, Program};
+use super::reversion::identity;
 use super::support::{compose, reverse, Case, Tally};
 use crate::plain::calls::Answer;
+use crate::plain::chain::Chain;
+use crate::plain::primes::{is_prime, LARGEST_MODULUS, LARGEST_PRIME, LARGE_PRIMES};
 use crate::plain::random::Random;
-use crate::plain::{primes, refusals, substitution::substitution};
+use crate::plain::{refusals, substitution::substitution};
 
 fn case(p: u64, f: &[u32], g: &[u32], n: usize) -> Case {
     Case { p, n, f: f.to_vec(), g: g.to_vec() }
@@ -65,6 +68,7 @@ pub fn whole_case<P: Program>(tally: &mut Tally, _: &mut Random) {
 }
 
 pub fn edges<L: Library>(tally: &mut Tally, random: &mut Random) {
+    edge_of_modulus::<L>(tally, random);
     edge_of_order::<L>(tally, random);
     edges_of_lists::<L>(tally, random);
     edge_of_cycles::<L>(tally, random);
@@ -78,27 +82,47 @@ pub fn other_edges<L: Library>(tally: &mut Tally, _: &mut Random) {
         tally.equal(("render", n), found, number);
     }
     let (number, prime) = L::table(15);
-    tally.equal("index 15", (number, primes::is_prime(u64::from(prime))), (0, true));
+    tally.equal("index 15", (number, is_prime(u64::from(prime))), (0, true));
     tally.equal("index 16", L::table(16), (14, 0));
+}
+
+/// Of the last numbers up to the largest modulus, the two that are prime are accepted; every other
+/// one, the largest modulus too, gives 2.
+fn edge_of_modulus<L: Library>(tally: &mut Tally, random: &mut Random) {
+    for p in LARGEST_MODULUS - 16..=LARGEST_MODULUS {
+        let number = if LARGE_PRIMES.contains(&p) { 0 } else { 2 };
+        every_call::<L>(tally, random, p, 4, number);
+    }
 }
 
 /// Order 4096 is accepted and 4097 gives 3.
 fn edge_of_order<L: Library>(tally: &mut Tally, random: &mut Random) {
-    let p = primes::LARGEST_MODULUS;
     for (n, number) in [(4096, 0), (4097, 3)] {
-        let example = case(p, &random.list(p, 3), &random.list(p, 8), n);
-        let value = substitution(p, &example.f, &example.g, n);
-        for route in 1..=4 {
-            let (answer, out) = compose::<L>(random, route, &example);
-            let found = (answer.number, out == value);
-            tally.equal((route, n), found, (number, number == 0));
-        }
-        let (answer, out) = reverse::<L>(random, p, &[0, 1, 1], n);
-        let restored = substitution(p, &[0, 1, 1], &out, n) == substitution(p, &[0, 1], &[0, 1], n);
-        tally.equal(("reverse", n), (answer.number, restored), (number, number == 0));
-        let (_, answer) = L::open(p, n as u64, &mut random.buffer(n));
-        tally.equal(("open", n), answer.number, number);
+        every_call::<L>(tally, random, LARGEST_PRIME, n, number);
     }
+}
+
+/// Compose by every route, reverse, an opening and a cycle are answered by this number.
+fn every_call<L: Library>(tally: &mut Tally, random: &mut Random, p: u64, n: usize, number: u32) {
+    let wanted = (number, number == 0);
+    let example = case(p, &random.list(p, 3), &random.list(p, 8), n);
+    let value = substitution(p, &example.f, &example.g, n);
+    for route in 1..=4 {
+        let (answer, out) = compose::<L>(random, route, &example);
+        tally.equal((route, p, n), (answer.number, out == value), wanted);
+    }
+    let series = [0, 1, (p - 1) as u32];
+    let (answer, out) = reverse::<L>(random, p, &series, n);
+    let restored = substitution(p, &series, &out, n) == identity(n);
+    tally.equal(("reverse", p, n), (answer.number, restored), wanted);
+    let mut running = random.buffer(n);
+    let (_, answer) = L::open(p, n as u64, &mut running);
+    tally.equal(("open", p, n), (answer.number, running == identity(n)), wanted);
+    let (mut running, chain) = (identity(n), Chain { modulus: p, order: n as u64, done: 0 });
+    let mut work = random.buffer(refusals::cycle_work_places(n as u64, series.len()) as usize);
+    let (_, answer) = L::cycle(chain, random.route(), &series, &mut running, &mut work);
+    let value = substitution(p, &series, &identity(n), n);
+    tally.equal(("cycle", p, n), (answer.number, running == value), wanted);
 }
 
 /// Lists of 4096 places are accepted; work one place short gives 7; coefficient p - 1 is accepted,

@@ -95,12 +95,13 @@ impl Case {
     }
 }
 
-/// A prime, mostly small, else from the table.
+/// A prime, mostly small, else from the table or above 2^31.
 pub fn modulus(random: &mut Random) -> u64 {
     thread_local!(static TABLE: Vec<u32> = primes::table());
-    match random.below(4) {
+    match random.below(8) {
         0 => TABLE.with(|table| u64::from(random.pick(table))),
-        1 => 2,
+        1 => random.large_prime(),
+        2 | 3 => 2,
         _ => random.pick(&[3, 5, 7, 11, 13, 31, 65537]),
     }
 }

@@ -3,7 +3,7 @@
 
 use super::library::{Library, Plain};
 use super::reversion::reversible;
-use super::support::{add_power, compose, reverse, seen, Case, Tally};
+use super::support::{add_power, compose, modulus, reverse, seen, Case, Tally};
 use crate::plain::counts::quotient_rounded_up;
 use crate::plain::products::{places, product, spread, sum};
 use crate::plain::random::Random;
@@ -126,7 +126,7 @@ pub fn one_level_down(case: &Case) -> (Vec<u32>, Vec<u32>) {
 /// powers of (z - c) could be left out; but those from n/v on leave the answer as it is.
 pub fn constant_term_counted(tally: &mut Tally, random: &mut Random) {
     for _ in 0..CASES {
-        let p = random.pick(&[2, 3, 5, 7, 2_147_483_647]);
+        let p = modulus(random);
         let (n, v) = (random.count(1, 9), random.count(1, 4));
         let c = random.non_zero(p);
         let g = [vec![c], vec![0; v - 1], vec![random.non_zero(p)]].concat();

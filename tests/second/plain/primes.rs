@@ -1,6 +1,14 @@
-//! Primality by trial division, and the table of the sixteen largest primes below 2^31.
+//! Primality by trial division, the table of the sixteen largest primes below 2^31, and some primes
+//! above it.
 
-pub const LARGEST_MODULUS: u64 = 2_147_483_647;
+pub const LARGEST_MODULUS: u64 = 4_294_967_295;
+
+/// The largest prime up to the largest modulus.
+pub const LARGEST_PRIME: u64 = 4_294_967_291;
+
+/// Primes above 2^31: the first, and the last two up to the largest modulus.
+pub const LARGE_PRIMES: [u64; 3] = [2_147_483_659, 4_294_967_279, LARGEST_PRIME];
+
 pub const TABLE_LENGTH: usize = 16;
 
 /// No number from 2 to the square root divides it; apart from 2, the odd ones are tried.

@@ -1,5 +1,7 @@
 //! A seeded generator (splitmix64), and what the checks draw from it.
 
+use super::primes::{is_prime, LARGEST_MODULUS, LARGE_PRIMES};
+
 pub struct Random {
     state: u64,
 }
@@ -37,6 +39,14 @@ impl Random {
     /// A route, from 1 to 4.
     pub fn route(&mut self) -> u64 {
         1 + self.below(4)
+    }
+
+    /// A prime above 2^31: one of `LARGE_PRIMES`, or the first one from any such number downwards.
+    pub fn large_prime(&mut self) -> u64 {
+        let first = LARGE_PRIMES[0];
+        let any = first + self.below(LARGEST_MODULUS - first + 1);
+        let from = if self.once_in(2) { any } else { self.pick(&LARGE_PRIMES) };
+        (first..=from).rev().find(|&number| is_prime(number)).expect("the first of them")
     }
 
     /// A number below p; 0 and p - 1 come often.

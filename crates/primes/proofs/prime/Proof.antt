@@ -3,7 +3,6 @@ use borrow.Author.Needs.{needs}
 use borrow.Author.Tests.{le-leb, lt-leb}
 use mathlib.Core.Path.{refl}
 use Rattle.definition.specs.Answer.{answered}
-use Rattle.definition.specs.PrimeTable.{tableBound}
 use Rattle.definition.specs.Refusal.{first, tableRefusal, test}
 use Rattle.primes.specs.Table.{table, table-written}
 use Rattle.primes.proofs.prime.Statement.{statement}
@@ -16,7 +15,7 @@ array-read-t9 : tie.Need-array-read-t9
 array-read-t9 c = search needs
 
 returns : tie.Need-returns
-unfolding answered first table tableBound tableRefusal test
+unfolding answered first table tableRefusal test
 returns c = record { refusal = rw (lt-leb 16 _ (c .if1 .taken)); entry = rw table-written }
 
 returns-2 : tie.Need-returns-2
