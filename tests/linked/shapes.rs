@@ -133,7 +133,7 @@ pub fn largest_coefficients(tally: &mut Tally, random: &mut Random) {
     }
 }
 
-/// Orders at which the second implementation takes too long: the closed form says the value.
+/// Large orders: the closed form, which needs no product, says the value.
 pub fn largest_coefficients_closed(tally: &mut Tally, random: &mut Random) {
     for p in LARGE_PRIMES {
         for (n, numbers) in [(1024, &[1, 2, 3][..]), (4096, &[4])] {

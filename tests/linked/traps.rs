@@ -40,10 +40,7 @@ pub fn outer_cut(tally: &mut Tally, random: &mut Random) {
 pub fn order_rounded_down(tally: &mut Tally, random: &mut Random) {
     let mut different = 0;
     for _ in 0..CASES {
-        let mut case = Case::draw(random, 12);
-        case.p = random.pick(&[2, 3, 5]);
-        case.f = random.list(case.p, case.f.len());
-        case.g = random.list(case.p, case.g.len());
+        let case = Case::draw(random, 12);
         let wrong = joined_parts(&case, case.n / case.p as usize);
         different += usize::from(answer(tally, random, 3, &case) != wrong);
     }

@@ -22,6 +22,8 @@ import job_file  # noqa: E402
 
 WHOLE = "route 1 modulus 7 order 4 outer 1 2 3 inner 0 1 1"
 WHOLE_FILE = struct.pack("<13I", 1, 7, 4, 3, 28, 3, 40, 1, 2, 3, 0, 1, 1)
+# above 2^31: the first, and the last two below 2^32
+LARGE_PRIMES = (2147483659, 4294967279, 4294967291)
 PROGRAM = None
 
 
@@ -41,7 +43,7 @@ def shown(file):
 
 def plain_file(source):
     """A seeded file in the plain layout, accepted or not."""
-    modulus = source.choice([0, 1, 2, 6, 7, 7, 2**31 - 1, 2**31, 2147483659, 4294967279, 4294967289, 4294967291, 2**32 - 1])
+    modulus = source.choice([0, 1, 2, 6, 7, 7, 2**31 - 1, 2**31, *LARGE_PRIMES, 4294967289, 2**32 - 1])
     most = source.choice([1, max(modulus, 1), max(modulus, 1), 2**32])
     counts = [source.choice([0, 1, 2, 3, 5, 63, 64, 65]) for _ in range(2)]
     outer, inner = ([source.randrange(most) for _ in range(count)] for count in counts)
@@ -54,7 +56,7 @@ def other_file(source):
     """A seeded file with any layout: overlaps, spare bytes, lists out of place."""
     small = lambda: source.choice([0, 1, 2, 3, 5, 5, 64, 65 if source.randrange(4) else source.getrandbits(32)])
     offset = lambda: source.choice([27, 28, 28, 29, 30, 32, 40, 60, source.randrange(28), source.getrandbits(32)])
-    header = [source.randrange(6), source.choice([2, 5, 7, 251, 2**31 - 1, 4294967291]), source.choice([1, 3, 8, 64, 65])]
+    header = [source.randrange(6), source.choice([2, 5, 7, 251, 2**31 - 1, *LARGE_PRIMES]), source.choice([1, 3, 8, 64, 65])]
     header += [small(), offset(), small(), offset()]
     return struct.pack("<7I", *header) + source.randbytes(source.choice([0, 1, 12, 40, 300, 4068, 4069]))
 
@@ -84,7 +86,7 @@ class Written(unittest.TestCase):
             self.assertEqual(written(WHOLE.replace("route 1", f"route {name}"))[:4], struct.pack("<I", route))
 
     def test_primes_above_2_to_the_31(self):
-        for prime in (2147483659, 4294967279, 4294967291):
+        for prime in LARGE_PRIMES:
             words = WHOLE.replace("modulus 7", f"modulus {prime}")
             self.assertEqual(run("write", "-", words), (0, WHOLE_FILE[:4] + struct.pack("<I", prime) + WHOLE_FILE[8:], ""))
 

@@ -6,15 +6,16 @@
 --   opening-refused, opening-taken        the contract holds of the two answers
 --   refused-modulus, taken-modulus        what the two answers tell of the modulus
 --   good-modulus            a modulus that is not refused is a prime up to the largest modulus
+--   prime-taken             and every such prime is not refused
 -- Assumes nothing.
 use Prim.Native.Nat.{ℕ, _≤_}
-use borrow.Author.Tests.{ltb-false}
+use borrow.Author.Tests.{le-ltb, ltb-false}
 use lib.Dec.{ltb}
 use mathlib.Core.Bool.{Bool, true, false, cond, not, true≢false, _||_}
 use mathlib.Core.List.{[], _∷_}
 use mathlib.Core.Path.{_≡_, refl}
 use native.Mathlib.Omega.{arith}
-use Rattle.algebra.specs.Prime.{prime-of-test}
+use Rattle.algebra.specs.Prime.{isPrime-true, prime-of-test}
 use Rattle.definition.specs.Answer.{answered}
 use Rattle.definition.specs.Prime.{Prime, isPrime, largestModulus}
 use Rattle.definition.specs.Refusal.{badModulus, first, test}
@@ -70,3 +71,7 @@ good-modulus p good = go (ltb largestModulus p) (isPrime p) refl refl good
     go true prime e t bad = absurd (true≢false bad)
     go false true e t bad = (prime-of-test p t, ltb-false largestModulus p e)
     go false false e t bad = absurd (true≢false bad)
+
+pub prime-taken : (p : ℕ) → Prime p → p ≤ largestModulus → badModulus p ≡ false
+unfolding badModulus
+prime-taken p prime within = rw (le-ltb largestModulus p within, isPrime-true prime)

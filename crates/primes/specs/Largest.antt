@@ -8,17 +8,15 @@
 --   beyond-refused    number 2 turns down every number above it
 -- Assumes nothing.
 use Prim.Native.Nat.{ℕ, _*_, _^_, _<_, _≤_}
-use borrow.Author.Tests.{le-ltb, lt-ltb}
 use lib.Dec.{lit≤}
-use mathlib.Core.Bool.{true, false}
+use mathlib.Core.Bool.{Bool, true, false}
 use mathlib.Core.List.{[], _∷_}
 use mathlib.Core.Path.{_≡_, refl}
-use native.Mathlib.Decide.{decLt}
 use native.Mathlib.Omega.{arith}
-use Rattle.algebra.specs.Prime.{isPrime-false, isPrime-true}
 use Rattle.definition.specs.Prime.{largestModulus}
 use Rattle.definition.specs.PrimeTable.{primeBelow}
 use Rattle.definition.specs.Refusal.{badModulus}
+use Rattle.field.specs.Opening.{good-modulus, prime-taken}
 use Rattle.primes.specs.Sieve.{Next, composites, oddTrial, quick, reach, sieved, sieved-next, next-below, trial}
 
 abbrev pub largestPrime : ℕ
@@ -38,13 +36,15 @@ pub largest-prime : primeBelow (2 ^ 32) ≡ largestPrime
 largest-prime = next-below (2 ^ 32) largestPrime largest-next
 
 pub largest-taken : badModulus largestPrime ≡ false
-unfolding badModulus largestModulus
-largest-taken = rw (isPrime-true (largest-next .prime))
+unfolding largestModulus
+largest-taken = prime-taken largestPrime (largest-next .prime) (lit≤ tt)
 
 pub beyond-refused : (p : ℕ) → largestPrime < p → badModulus p ≡ true
-unfolding badModulus largestModulus
-beyond-refused p above = go (decLt p (2 ^ 32))
+unfolding largestModulus
+beyond-refused p above = go (badModulus p) refl
   where
-    go : Dec (p < 2 ^ 32) → badModulus p ≡ true
-    go (yes below) = rw (le-ltb largestModulus p (omega arith), isPrime-false p (largest-next .none p above below))
-    go (no beyond) = rw (lt-ltb largestModulus p (omega arith))
+    go : (b : Bool) → badModulus p ≡ b → badModulus p ≡ true
+    go true e = e
+    go false e =
+        let (prime, most) = good-modulus p e in
+        absurd (largest-next .none p above (omega arith) prime)

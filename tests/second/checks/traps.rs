@@ -67,10 +67,7 @@ pub fn outer_cut(tally: &mut Tally, random: &mut Random) {
 pub fn order_rounded_down(tally: &mut Tally, random: &mut Random) {
     let mut different = 0;
     for _ in 0..CASES {
-        let mut case = Case::draw(random, 12);
-        case.p = random.pick(&[2, 3, 5]);
-        case.f = random.list(case.p, case.f.len());
-        case.g = random.list(case.p, case.g.len());
+        let case = Case::draw(random, 12);
         let (_, out) = compose::<Plain>(random, 3, &case);
         let p = case.p as usize;
         tally.equal(&case, &out, &joined_parts(&case, quotient_rounded_up(case.n, p)));
