@@ -22,10 +22,10 @@ use mathlib.Core.Bool.{false, _||_}
 use mathlib.Core.List.{List, _++_}
 use mathlib.Core.Path.{_≡_, sym, ap, _∙_}
 use Rattle.algebra.specs.Lists.{length-tabulate}
+use Rattle.buffer.specs.Filling.{Filling, filling-last}
 use Rattle.buffer.specs.Written.{sets-whole}
 use Rattle.definition.specs.Job.{cutShort, field, headerBytes, listAt, misplaced, mostBytes, mostPlaces, order, tooLarge, wordOf}
 use Rattle.refusal.specs.Tests.{either-false}
-use Rattle.route.specs.Filling.{Filling, filling-last}
 
 pub placed : (file : List ℕ) (count at : ℕ) → misplaced file count at ≡ false → (i : ℕ) → i < count → at + 4 * i + 4 ≤ length file
 unfolding headerBytes misplaced

@@ -18,6 +18,7 @@ use lib.ListN.{length, getD, set, length-set}
 use lib.Seq.{sets, getD-set-other, getD-set-same, getD-take, take-set-lt}
 use Rattle.algebra.specs.Composition.{length-composed}
 use Rattle.algebra.specs.Lists.{coefficient-tabulate, length-tabulate, table-of}
+use Rattle.buffer.specs.Filling.{Filling, filling-last, filling-next}
 use Rattle.buffer.specs.Written.{getD-sets-after, sets-whole}
 use Rattle.definition.specs.KinoshitaLi.{negative}
 use Rattle.definition.specs.Lists.{coefficient, tabulate}
@@ -28,7 +29,6 @@ use Rattle.product.specs.Segments.{Apart, segment, coefficient-segment, segment
 use Rattle.product.specs.Single.{Multiplied, Operands}
 use Rattle.newton_step.specs.Newton.{derivative, difference, differenceAt, error, newtonStep}
 use Rattle.route.specs.Contract.{Lent, Route}
-use Rattle.route.specs.Filling.{Filling, filling-last, filling-next}
 use Rattle.route.specs.Within.{Within, segment-sets, within-sets, within-trans}
 
 pub record ErrorPut (p : ℕ) (g h before after : List ℕ) : Type 0 where

@@ -2,7 +2,7 @@
 --
 --   Within    two lists that are equal outside some places
 --   Table     a table, written place by place
---   Filling   a loop that writes a table
+--   Filling   what a loop that writes a table leaves alone
 --   Contract  what every route requires and ensures
 pub mod Within
 pub mod Table

@@ -1,33 +1,22 @@
--- A table, written into a list place by place.
+-- Tables written into a list.
 --
---   table-first   before the first place
---   table-next    one place more
---   written-table the table that was written
+--   written-table      the table that was written
 --   constant-written   zeros, with c written at the first of them
 -- Assumes nothing.
 use Prim.Native.Nat.{ℕ, zero, suc, _+_, _<_, _≤_}
-use native.Mathlib.Numerals.{add-one}
 use native.Mathlib.Omega.{arith}
 use mathlib.Core.Path.{_≡_, refl, sym, ap, _∙_}
 use mathlib.Core.List.{List, _∷_}
 use lib.ListN.{length, set, replicate, length-replicate, getD-replicate}
 use lib.Seq.{sets, set-set}
 use Rattle.algebra.specs.Lists.{length-tabulate, table-of}
-use Rattle.buffer.specs.Written.{sets-set, sets-snoc}
+use Rattle.buffer.specs.Written.{sets-set}
 use Rattle.definition.specs.Lists.{coefficient, tabulate}
 use Rattle.definition.specs.Substitution.{constant}
 use Rattle.product.specs.Segments.{segment}
 use Rattle.route.specs.Within.{segment-sets}
 
 module _ (w : List ℕ) (t : ℕ) (f : ℕ → ℕ) where
-  pub table-first : w ≡ sets w t (tabulate 0 f)
-  unfolding tabulate
-  table-first = refl
-
-  pub table-next : (k : ℕ) → set (sets w t (tabulate k f)) (t + k) (f k) ≡ sets w t (tabulate (k + 1) f)
-  unfolding tabulate
-  table-next k = rw add-one (rw length-tabulate at (sets-snoc w t (tabulate k f) (f k)))
-
   pub written-table : (n : ℕ) → t + n ≤ length w → segment (sets w t (tabulate n f)) t n ≡ tabulate n f
   written-table n h = segment-sets w t (tabulate n f) n (length-tabulate n f) h
 

@@ -3,8 +3,8 @@ use borrow.Author.Needs.{needs}
 use native.Mathlib.Omega.{arith}
 use Prim.Native.Nat.{_*_, _-_}
 use native.Mathlib.Nat.{zero-add}
+use Rattle.buffer.specs.Filling.{Filling, filling-first, filling-last, filling-next}
 use Rattle.definition.specs.KinoshitaLi.{denominator, plane, planePlace}
-use Rattle.route.specs.Filling.{Filling, filling-first, filling-last, filling-next}
 use Rattle.bivariate.specs.Steps.{row-positive}
 use Rattle.bivariate.proofs.denominator.Statement.{statement}
 use Rattle.bivariate.proofs.denominator.Tie as tie

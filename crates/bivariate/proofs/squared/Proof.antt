@@ -3,9 +3,10 @@ use borrow.Author.Needs.{needs}
 use native.Mathlib.Omega.{arith}
 use Prim.Native.Nat.{_*_, _-_}
 use mathlib.Core.Path.{_∙_}
+use Rattle.buffer.specs.Filling.{Filling, filling-first, filling-last, filling-next}
 use Rattle.definition.specs.KinoshitaLi.{plane, planePlace, squared}
 use Rattle.product.specs.Planes.{held}
-use Rattle.route.specs.Filling.{Filling, filling-first, filling-held, filling-last, filling-next}
+use Rattle.route.specs.Filling.{filling-held}
 use Rattle.bivariate.specs.Steps.{row-positive}
 use Rattle.bivariate.proofs.squared.Statement.{statement}
 use Rattle.bivariate.proofs.squared.Tie as tie

@@ -5,10 +5,10 @@ use Prim.Native.Nat.{_-_}
 use lib.ListN.{length}
 use mathlib.Core.List.{reverse}
 use mathlib.Core.Path.{sym, _∙_}
+use Rattle.buffer.specs.Filling.{Filling, filling-first, filling-last, filling-next}
 use Rattle.definition.specs.KinoshitaLi.{numerator}
 use Rattle.definition.specs.Lists.{coefficient}
 use Rattle.division.specs.Quotient.{reversed, reversed-table}
-use Rattle.route.specs.Filling.{Filling, filling-first, filling-last, filling-next}
 use Rattle.division.proofs.numerator.Statement.{statement}
 use Rattle.division.proofs.numerator.Tie as tie
 

@@ -4,9 +4,9 @@ use native.Mathlib.Nat.{zero-add}
 use native.Mathlib.Omega.{arith}
 use Prim.Native.Nat.{_-_}
 use lib.ListN.{length}
+use Rattle.buffer.specs.Filling.{Filling, filling-first, filling-next}
 use Rattle.definition.specs.Job as job
 use Rattle.job_file.specs.File.{list-read, placed}
-use Rattle.route.specs.Filling.{Filling, filling-first, filling-next}
 use Rattle.job_file.proofs.read_list.Statement.{statement}
 use Rattle.job_file.proofs.read_list.Tie as tie
 

@@ -4,8 +4,8 @@ use native.Mathlib.Omega.{arith}
 use Prim.Native.Nat.{_-_}
 use lib.ListN.{length}
 use mathlib.Core.Path.{_∙_}
+use Rattle.buffer.specs.Filling.{Filling, filling-first, filling-last, filling-next}
 use Rattle.newton_step.specs.Newton.{derivative, derivativeAt}
-use Rattle.route.specs.Filling.{Filling, filling-first, filling-last, filling-next}
 use Rattle.newton_step.proofs.put_derivative.Statement.{statement}
 use Rattle.newton_step.proofs.put_derivative.Tie as tie
 

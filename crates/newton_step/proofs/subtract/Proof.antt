@@ -3,10 +3,10 @@ use borrow.Author.Needs.{needs}
 use native.Mathlib.Omega.{arith}
 use Prim.Native.Nat.{_-_}
 use lib.ListN.{length}
+use Rattle.buffer.specs.Filling.{Filling, filling-first}
 use Rattle.product.specs.Segments.{segment}
 use Rattle.newton_step.specs.Newton.{differenceAt}
 use Rattle.newton_step.specs.Step.{subtract-last, subtract-next}
-use Rattle.route.specs.Filling.{Filling, filling-first}
 use Rattle.newton_step.proofs.subtract.Statement.{statement}
 use Rattle.newton_step.proofs.subtract.Tie as tie
 

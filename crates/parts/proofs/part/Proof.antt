@@ -4,10 +4,11 @@ use native.Mathlib.Omega.{arith}
 use Prim.Native.Nat.{ℕ, _+_, _*_, _-_, _<_}
 use native.Mathlib.Nat.{le-refl}
 use mathlib.Core.Path.{_∙_}
+use Rattle.buffer.specs.Filling.{Filling, filling-first, filling-last, filling-next}
 use Rattle.buffer.specs.Written.{length-part}
 use Rattle.definition.specs.Bernstein.{part, partAt, partCount}
 use Rattle.product.specs.Segments.{Apart, segment, apart-within}
-use Rattle.route.specs.Filling.{Filling, filling-first, filling-last, filling-next, filling-place}
+use Rattle.route.specs.Filling.{filling-place}
 use Rattle.parts.specs.Counts.{part-place}
 use Rattle.parts.proofs.part.Statement.{statement}
 use Rattle.parts.proofs.part.Tie as tie

@@ -3,10 +3,11 @@ use borrow.Author.Needs.{needs}
 use native.Mathlib.Omega.{arith}
 use Prim.Native.Nat.{_-_, _%_}
 use mathlib.Core.Path.{ap, _∙_}
+use Rattle.buffer.specs.Filling.{Filling, filling-first, filling-last, filling-next}
 use Rattle.buffer.specs.Written.{length-part}
 use Rattle.definition.specs.Lists.{coefficient}
 use Rattle.product.specs.Segments.{segment}
-use Rattle.route.specs.Filling.{Filling, filling-first, filling-last, filling-next, filling-place}
+use Rattle.route.specs.Filling.{filling-place}
 use Rattle.parts.specs.Steps.{pthPowers-reduced}
 use Rattle.parts.proofs.pth_powers.Statement.{statement}
 use Rattle.parts.proofs.pth_powers.Tie as tie

@@ -2,8 +2,8 @@
 use borrow.Author.Needs.{needs}
 use native.Mathlib.Omega.{arith}
 use Prim.Native.Nat.{_-_}
+use Rattle.buffer.specs.Filling.{Filling, filling-first, filling-last, filling-next}
 use Rattle.definition.specs.Lists.{coefficient}
-use Rattle.route.specs.Filling.{Filling, filling-first, filling-last, filling-next}
 use Rattle.route.proofs.put.Statement.{statement}
 use Rattle.route.proofs.put.Tie as tie
 

@@ -1,0 +1,93 @@
+-- `schoolbook::four_products` meets its contract. Assumes nothing.
+use borrow.Author.Needs.{needs}
+use native.Mathlib.Omega.{arith}
+use Rattle.schoolbook.specs.Rows.{product-below}
+use Rattle.schoolbook.proofs.four_products.Statement.{statement}
+use Rattle.schoolbook.proofs.four_products.Tie as tie
+
+add-times : tie.Need-add-times
+add-times c = search needs
+
+mul-times : tie.Need-mul-times
+mul-times c = search needs
+
+shared-slice-read-times : tie.Need-shared-slice-read-times
+shared-slice-read-times c = search needs
+
+times-requires : tie.Need-times-requires
+times-requires c κs = search needs
+
+add-times-2 : tie.Need-add-times-2
+add-times-2 c = search needs
+
+mul-times-2 : tie.Need-mul-times-2
+mul-times-2 c = search needs
+
+shared-slice-read-times-2 : tie.Need-shared-slice-read-times-2
+shared-slice-read-times-2 c = search needs
+
+times-requires-2 : tie.Need-times-requires-2
+times-requires-2 c κs = search needs
+
+add-result : tie.Need-add-result
+add-result c =
+    let s = c .before .before .before .before .before .pre in
+    omega (arith, product-below (s .0) (s .5 .place3), product-below (s .1) (s .5 .place2))
+
+add-times-3 : tie.Need-add-times-3
+add-times-3 c = search needs
+
+mul-times-3 : tie.Need-mul-times-3
+mul-times-3 c = search needs
+
+shared-slice-read-times-3 : tie.Need-shared-slice-read-times-3
+shared-slice-read-times-3 c = search needs
+
+times-requires-3 : tie.Need-times-requires-3
+times-requires-3 c κs = search needs
+
+add-result-2 : tie.Need-add-result-2
+add-result-2 c =
+    let s = c .before .before .before .before .before .before .before .pre in
+    omega (arith, product-below (s .0) (s .5 .place3), product-below (s .1) (s .5 .place2), product-below (s .2) (s .5 .place1))
+
+mul-times-4 : tie.Need-mul-times-4
+mul-times-4 c = search needs
+
+shared-slice-read-times-4 : tie.Need-shared-slice-read-times-4
+shared-slice-read-times-4 c = search needs
+
+times-requires-4 : tie.Need-times-requires-4
+times-requires-4 c κs = search needs
+
+add-result-3 : tie.Need-add-result-3
+add-result-3 c =
+    let s = c .before .before .before .before .before .before .before .before .before .pre in
+    omega (arith, product-below (s .0) (s .5 .place3), product-below (s .1) (s .5 .place2), product-below (s .2) (s .5 .place1), product-below (s .3) (s .5 .place0))
+
+returns : tie.Need-returns
+returns c = search needs
+
+pub four-products-spec : {M : Type 1} → statement M
+four-products-spec =
+    tie.close
+    (tie.spec
+    add-times
+    mul-times
+    shared-slice-read-times
+    times-requires
+    add-times-2
+    mul-times-2
+    shared-slice-read-times-2
+    times-requires-2
+    add-result
+    add-times-3
+    mul-times-3
+    shared-slice-read-times-3
+    times-requires-3
+    add-result-2
+    mul-times-4
+    shared-slice-read-times-4
+    times-requires-4
+    add-result-3
+    returns)

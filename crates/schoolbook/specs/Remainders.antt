@@ -1,0 +1,182 @@
+-- The remainders of the sums by rows, and the product.
+--
+--   residueList p n x     the first n places of x modulo p
+--   product-residues      a product of two lists modulo p is that of their residues
+--   Small n l             n places below 2^40
+--   first-small           2^32 modulo m is at most 2^31
+--   first-term second-term   the parts of the sum with 2^32 and 2^64 replaced by their remainders modulo m: it fits 64 bits
+--   folded-remainder      and has the remainder of 2^32 high + low
+--   second-power          2^64 modulo m from 2^32 modulo m
+--   remainderList p n low high   the remainders of 2^32 high + low
+--   padded                a list of places below b, written into zeros
+--   product-by-rows       the remainders of the sums of all rows are the product
+-- Assumes nothing.
+use Prim.Native.Nat.{ℕ, suc, _+_, _-_, _*_, _/_, _%_, _<_, _≤_, _^_}
+use native.Mathlib.Decide.{decLe, decLt}
+use native.Mathlib.Nat.{add-mod, mod-add-mod, mod-eq-sub-mod, mod-le, mod-lt, mul-le-mul, zero-add}
+use native.Mathlib.Omega.{arith}
+use mathlib.Core.Path.{_≡_, refl, sym, ap, _∙_}
+use mathlib.Core.List.{List}
+use lib.ListN.{length, getD, replicate, length-replicate, getD-replicate, List·getD-eq-default}
+use lib.Seq.{sets, length-sets}
+use Rattle.algebra.specs.Agree.{agree-⊠}
+use Rattle.algebra.specs.Bridge.{listed-agree, reduced-listed, series-listed, series-of, cutProduct-listed}
+use Rattle.algebra.specs.Lists.{coefficient-tabulate, length-tabulate, sum-cong, tabulate-cong}
+use Rattle.algebra.specs.Remainder.{mod-mul-mod, mul-mod-mod}
+use Rattle.algebra.specs.Residue.{residues}
+use Rattle.buffer.specs.Written.{getD-sets-inside, getD-sets-other}
+use Rattle.convolution.specs.Halves.{halves-first, halves-few, halves-total}
+use Rattle.definition.specs.Lists.{sum, tabulate, coefficient}
+use Rattle.definition.specs.Substitution.{product, productTerm, cutProduct, cutProductAt}
+use Rattle.schoolbook.specs.Rows.{Factors, Summed, term, rows-above}
+
+unfoldable pub residueAt : ℕ → List ℕ → ℕ → ℕ
+residueAt p x i = coefficient x i % p
+
+unfoldable pub residueList : ℕ → ℕ → List ℕ → List ℕ
+residueList p n x = tabulate n (residueAt p x)
+
+pub product-residues : {p : ℕ} → 0 < p → (n : ℕ) (x y : List ℕ) → cutProduct p n (residueList p n x) (residueList p n y) ≡ cutProduct p n x y
+unfolding residueList residueAt
+product-residues {p} l n x y =
+    rw (reduced-listed l n (coefficient x), reduced-listed l n (coefficient y))
+    (cutProduct-listed l n _ _
+    ∙ listed-agree (agree-⊠ (residues l) (series-listed l n (series-of l x)) (series-listed l n (series-of l y)))
+    ∙ sym (cutProduct-listed l n x y))
+
+pub record Small (n : ℕ) (l : List ℕ) : Type 0 where
+  pub room : n ≤ length l
+  pub below : (k : ℕ) → k < n → getD l k 0 < 2 ^ 40
+
+pub first-small : (m : ℕ) → 0 < m → m < 2 ^ 32 → 2 ^ 32 % m ≤ 2 ^ 31
+first-small m l h = at (decLe m (2 ^ 31))
+  where
+    at : Dec (m ≤ 2 ^ 31) → 2 ^ 32 % m ≤ 2 ^ 31
+    at (yes b) = omega (arith, mod-lt (2 ^ 32) l)
+    at (no b) = rw (mod-eq-sub-mod {n = 2 ^ 32} {m = m} (omega arith)) (omega (arith, mod-le (2 ^ 32 - m) m))
+
+pub second-power : (m : ℕ) → (2 ^ 32 % m) * (2 ^ 32 % m) % m ≡ 2 ^ 64 % m
+second-power m = rw (mod-mul-mod, mul-mod-mod)
+
+module _ (m high : ℕ) (l : 0 < m) (h : m < 2 ^ 32) where
+  pub second-term : high < 2 ^ 40 → high / 2 ^ 32 * (2 ^ 64 % m) ≤ (2 ^ 8 - 1) * (2 ^ 32 - 1)
+  second-term b = mul-le-mul {n₂ = 2 ^ 8 - 1} {m₂ = 2 ^ 32 - 1} (omega arith) (omega (arith, mod-lt (2 ^ 64) l))
+
+  pub first-term : high % 2 ^ 32 * (2 ^ 32 % m) ≤ (2 ^ 32 - 1) * 2 ^ 31
+  first-term = mul-le-mul {n₂ = 2 ^ 32 - 1} {m₂ = 2 ^ 31} (omega arith) (first-small m l h)
+
+pub folded-remainder : (m high low : ℕ)
+    → (high / 2 ^ 32 * (2 ^ 64 % m) + high % 2 ^ 32 * (2 ^ 32 % m) + low) % m ≡ (2 ^ 32 * high + low) % m
+folded-remainder m high low =
+    let whole : high / 2 ^ 32 * 2 ^ 64 + high % 2 ^ 32 * 2 ^ 32 ≡ 2 ^ 32 * high = omega arith in
+    rw (
+      ← mod-add-mod (high / 2 ^ 32 * (2 ^ 64 % m) + high % 2 ^ 32 * (2 ^ 32 % m)) m,
+      add-mod (high / 2 ^ 32 * (2 ^ 64 % m)) (high % 2 ^ 32 * (2 ^ 32 % m)),
+      mul-mod-mod (high / 2 ^ 32),
+      mul-mod-mod (high % 2 ^ 32),
+      ← add-mod,
+      mod-add-mod,
+      whole,
+    )
+
+unfoldable pub remainderAt : ℕ → List ℕ → List ℕ → ℕ → ℕ
+remainderAt p low high k = (2 ^ 32 * coefficient high k + coefficient low k) % p
+
+unfoldable pub remainderList : ℕ → ℕ → List ℕ → List ℕ → List ℕ
+remainderList p n low high = tabulate n (remainderAt p low high)
+
+pub record Zeros (c : ℕ) (zs : List ℕ) : Type 0 where
+  pub size : length zs ≡ c
+  pub blank : (j : ℕ) → getD zs j 0 ≡ 0
+
+pub zeros-replicate : (c : ℕ) → Zeros c (replicate c 0)
+zeros-replicate c = record { size = length-replicate c 0; blank = λ j. at j (decLt j c) }
+  where
+    at : (j : ℕ) → Dec (j < c) → getD {A = ℕ} (replicate c 0) j 0 ≡ 0
+    at j (yes b) = getD-replicate c j 0 0 b
+    at j (no b) = List·getD-eq-default (replicate c 0) 0 (rw length-replicate (omega arith))
+
+-- a list vs written into zeros
+module _ {c : ℕ} {zs : List ℕ} (z : Zeros c zs) (at : ℕ) (vs : List ℕ) (fits : at + length vs ≤ c) where
+  padded-inside : (j : ℕ) → j < length vs → getD (sets zs at vs) (at + j) 0 ≡ getD vs j 0
+  padded-inside j b = getD-sets-inside zs at vs j 0 (rw (z .size) fits) b
+
+  padded-before : (j : ℕ) → j < at → getD (sets zs at vs) j 0 ≡ 0
+  padded-before j b = getD-sets-other zs at vs j 0 (λ i h e. omega arith) ∙ z .blank j
+
+  padded-below : (b : ℕ) → 0 < b → ((j : ℕ) → j < length vs → getD vs j 0 < b) → (j : ℕ) → getD (sets zs at vs) j 0 < b
+  padded-below b l h j = go (decLt j at) (decLt j (at + length vs))
+    where
+      go : Dec (j < at) → Dec (j < at + length vs) → getD (sets zs at vs) j 0 < b
+      go (yes u) v = rw (padded-before j u) l
+      go (no u) (yes v) =
+          let e : j ≡ at + (j - at) = omega arith in
+          rw (e, padded-inside (j - at) (omega arith)) (h (j - at) (omega arith))
+      go (no u) (no v) = rw (getD-sets-other zs at vs j 0 (λ i s e. omega arith), z .blank j) l
+
+residue-below : {p : ℕ} → 0 < p → (n : ℕ) (x : List ℕ) (j : ℕ) → j < n → getD (residueList p n x) j 0 < p
+unfolding residueList residueAt coefficient
+residue-below {p} l n x j b = rw (coefficient-tabulate n (residueAt p x) j b) (mod-lt _ l)
+
+pub length-residueList : (p n : ℕ) (x : List ℕ) → length (residueList p n x) ≡ n
+unfolding residueList
+length-residueList p n x = length-tabulate n (residueAt p x)
+
+-- two lists, reduced modulo p and written into zeros, the second one seven places further up
+module _ {p n : ℕ} (l : 0 < p) (few : n ≤ 128) {us vs : List ℕ} (left : Zeros 136 us) (right : Zeros 136 vs) (x y : List ℕ) where
+  fits : (at : ℕ) → at ≤ 7 → (w : List ℕ) → at + length (residueList p n w) ≤ 136
+  fits at b w = rw length-residueList (omega arith)
+
+  below : (w : List ℕ) (j : ℕ) → j < length (residueList p n w) → getD (residueList p n w) j 0 < p
+  below w j h = residue-below l n w j (rw length-residueList at h)
+
+  pub factors : Factors p n (sets us 0 (residueList p n x)) (sets vs 7 (residueList p n y))
+  factors = record {
+    order = few;
+    left = rw (length-sets, left .size) (omega arith);
+    right = rw (length-sets, right .size) (omega arith);
+    left-below = record { place = padded-below left 0 (residueList p n x) (fits 0 (omega arith) x) p l (below x) };
+    right-below = record { place = padded-below right 7 (residueList p n y) (fits 7 (omega arith) y) p l (below y) };
+    zeros = padded-before right 7 (residueList p n y) (fits 7 (omega arith) y);
+  }
+
+  -- the rows up to a place add the terms of the product there
+  inside : (k : ℕ) → k < n → (j : ℕ) → j < suc k
+      → term (sets us 0 (residueList p n x)) (sets vs 7 (residueList p n y)) k j
+      ≡ productTerm (coefficient (residueList p n x)) (coefficient (residueList p n y)) k j
+  unfolding productTerm coefficient
+  inside k b j c =
+      let e : k + 7 - j ≡ 7 + (k - j) = omega arith in
+      rw (
+        e,
+        padded-inside right 7 (residueList p n y) (fits 7 (omega arith) y) (k - j) (rw length-residueList (omega arith)),
+        ← zero-add j,
+        padded-inside left 0 (residueList p n x) (fits 0 (omega arith) x) j (rw length-residueList (omega arith)),
+        zero-add j,
+      )
+
+  pub product-by-rows : {i : ℕ} {low high : List ℕ} → n ≤ i → Summed i n (sets us 0 (residueList p n x)) (sets vs 7 (residueList p n y)) low high
+      → remainderList p n low high ≡ cutProduct p n x y
+  unfolding remainderList remainderAt cutProduct cutProductAt product coefficient
+  product-by-rows {i} {low} {high} all s =
+      tabulate-cong n (remainderAt p low high) (cutProductAt p (residueList p n x) (residueList p n y)) at
+      ∙ product-residues l n x y
+    where
+      at : (k : ℕ) → k < n → remainderAt p low high k ≡ cutProductAt p (residueList p n x) (residueList p n y) k
+      at k b = ap (λ t. t % p)
+          (halves-total (s .place k b) ∙ zero-add (sum i _) ∙ rows-above factors k (suc k) i (omega arith) (omega arith)
+          ∙ sum-cong (suc k) _ (productTerm (coefficient (residueList p n x)) (coefficient (residueList p n y)) k) (inside k b))
+
+pub summed-none : {n : ℕ} {us vs : List ℕ} → n ≤ 128 → Zeros 128 us → Zeros 128 vs → (x y : List ℕ) → Summed 0 n x y us vs
+summed-none few a b x y = record {
+  low-room = rw (a .size) few;
+  high-room = rw (b .size) few;
+  place = λ k h. rw (a .blank k, b .blank k) (halves-first (omega arith));
+}
+
+module _ {n : ℕ} {x y low high : List ℕ} (few : n ≤ 128) (s : Summed (n + 8) n x y low high) where
+  pub small-low : Small n low
+  small-low = record { room = s .low-room; below = λ k b. halves-few (s .place k b) (omega arith) .0 }
+
+  pub small-high : Small n high
+  small-high = record { room = s .high-room; below = λ k b. halves-few (s .place k b) (omega arith) .1 }
