@@ -1,6 +1,4 @@
 -- The laws behind a product by rows.
 --
---   Rows         rows of the multiplication, added to sums in two halves
---   Remainders   the remainders of these sums, and the product
-pub mod Rows
+--   Remainders   the remainders of the sums by rows, and the product
 pub mod Remainders

@@ -28,7 +28,7 @@ use Rattle.buffer.specs.Written.{getD-sets-inside, getD-sets-other}
 use Rattle.convolution.specs.Halves.{halves-first, halves-few, halves-total}
 use Rattle.definition.specs.Lists.{sum, tabulate, coefficient}
 use Rattle.definition.specs.Substitution.{product, productTerm, cutProduct, cutProductAt}
-use Rattle.schoolbook.specs.Rows.{Factors, Summed, term, rows-above}
+use Rattle.rows.specs.Rows.{Factors, Summed, term, rows-above}
 
 unfoldable pub residueAt : ℕ → List ℕ → ℕ → ℕ
 residueAt p x i = coefficient x i % p

@@ -1,11 +1,11 @@
-// The product of two lists modulo p, cut to at most 128 places: the multiplication by hand, some rows of it in one pass over the places. The
-// sum of a place is exact, its low and high halves kept apart, and its remainder is taken once.
+// The product of two lists modulo p, cut to at most 128 places, as by hand: the rows are added in two halves, and the remainder of a place is
+// taken once.
 ghost use mathlib.Core.Path.{_≡_};
 ghost use Prim.Native.Nat.{_+_, _*_, _%_, _<_, _≤_, _^_};
 ghost use lib.ListN.{length};
 ghost use lib.Seq.{sets};
 ghost use Rattle.definition.specs.Substitution.{cutProduct};
-ghost use Rattle.schoolbook.specs.Rows.{Factors, FourBelow, Summed, fourProducts};
+ghost use Rattle.rows.specs.Rows.{Factors, Summed};
 ghost use Rattle.schoolbook.specs.Remainders.{remainderList, residueList, Small};
 
 // x modulo p. Most numbers are below p already.
@@ -35,79 +35,16 @@ fn widen(p: u32, n: usize, x: &[u32], at: usize, into: &mut [u64])
     }
 }
 
-// The product of two 32-bit numbers. The remainders change nothing; they tell the compiler that a vector instruction will do.
-fn times(a: u64, b: u64) -> u64
-    requires { ⌜ (a < 2 ^ 32) × (b < 2 ^ 32) ⌝ }
-    ensures { λ r. ⌜ r ≡ a * b ⌝ }
-{
-    (a % 4294967296) * (b % 4294967296)
-}
-
-// The sum of four products of numbers below 2^31: it fits 64 bits.
-fn four_products(a: u64, b: u64, c: u64, d: u64, y: &[u64], e: usize) -> u64
-    requires { ⌜ (a < 2 ^ 31) × (b < 2 ^ 31) × (c < 2 ^ 31) × (d < 2 ^ 31) × (e + 3 < length (now y)) × FourBelow (2 ^ 31) (now y) e ⌝ }
-    ensures { λ r. ⌜ r ≡ fourProducts a b c d (now (y .entry)) e ⌝ }
-{
-    times(a, y[e + 3]) + times(b, y[e + 2]) + times(c, y[e + 1]) + times(d, y[e])
-}
-
-// Adds rows i to i + 7, where the factors are below 2^31.
-fn add_eight_rows(i: usize, n: usize, x: &[u64], y: &[u64], low: &mut [u64], high: &mut [u64])
-    requires { ⌜ Factors (2 ^ 31) n (now x) (now y) × (i < n) × Summed i n (now x) (now y) (now low) (now high) ⌝ }
-    ensures { λ r. ⌜ Summed (i + 8) n (now (x .entry)) (now (y .entry)) (now (low .exit)) (now (high .exit)) ⌝ }
-{
-    let x0 = x[i];
-    let x1 = x[i + 1];
-    let x2 = x[i + 2];
-    let x3 = x[i + 3];
-    let j = i + 4;
-    let x4 = x[j];
-    let x5 = x[j + 1];
-    let x6 = x[j + 2];
-    let x7 = x[j + 3];
-    let mut t = i;
-    while t < n {
-        let e = t - i;
-        let v = four_products(x0, x1, x2, x3, y, e + 4);
-        let w = four_products(x4, x5, x6, x7, y, e);
-        low[t] += v % 4294967296 + w % 4294967296;
-        high[t] += v / 4294967296 + w / 4294967296;
-        t += 1;
-    }
-}
-
-// Adds rows i to i + 3.
-fn add_four_rows(i: usize, n: usize, x: &[u64], y: &[u64], low: &mut [u64], high: &mut [u64])
-    requires { ⌜ Factors (2 ^ 32) n (now x) (now y) × (i < n + 4) × Summed i n (now x) (now y) (now low) (now high) ⌝ }
-    ensures { λ r. ⌜ Summed (i + 4) n (now (x .entry)) (now (y .entry)) (now (low .exit)) (now (high .exit)) ⌝ }
-{
-    let x0 = x[i];
-    let x1 = x[i + 1];
-    let x2 = x[i + 2];
-    let x3 = x[i + 3];
-    let mut t = i;
-    while t < n {
-        let e = t - i + 4;
-        let a = times(x0, y[e + 3]);
-        let b = times(x1, y[e + 2]);
-        let c = times(x2, y[e + 1]);
-        let d = times(x3, y[e]);
-        low[t] += a % 4294967296 + b % 4294967296 + c % 4294967296 + d % 4294967296;
-        high[t] += a / 4294967296 + b / 4294967296 + c / 4294967296 + d / 4294967296;
-        t += 1;
-    }
-}
-
 // Adds rows i to i + 7, whatever the modulus.
 fn add_pass(p: u32, i: usize, n: usize, x: &[u64], y: &[u64], low: &mut [u64], high: &mut [u64])
     requires { ⌜ Factors p n (now x) (now y) × (i < n) × Summed i n (now x) (now y) (now low) (now high) ⌝ }
     ensures { λ r. ⌜ Summed (i + 8) n (now (x .entry)) (now (y .entry)) (now (low .exit)) (now (high .exit)) ⌝ }
 {
     if p <= 2147483648 {
-        add_eight_rows(i, n, x, y, low, high);
+        rows::add_eight_rows(i, n, x, y, low, high);
     } else {
-        add_four_rows(i, n, x, y, low, high);
-        add_four_rows(i + 4, n, x, y, low, high);
+        rows::add_four_rows(i, n, x, y, low, high);
+        rows::add_four_rows(i + 4, n, x, y, low, high);
     }
 }
 

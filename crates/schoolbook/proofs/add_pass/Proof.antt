@@ -3,7 +3,7 @@ use borrow.Author.Needs.{needs}
 use native.Mathlib.Omega.{arith}
 use Prim.Native.Nat.{_+_}
 use mathlib.Core.Path.{_≡_}
-use Rattle.schoolbook.specs.Rows.{factors-below}
+use Rattle.rows.specs.Rows.{factors-below}
 use Rattle.schoolbook.proofs.add_pass.Statement.{statement}
 use Rattle.schoolbook.proofs.add_pass.Tie as tie
 

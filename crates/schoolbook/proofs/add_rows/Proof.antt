@@ -4,7 +4,7 @@ use native.Mathlib.Omega.{arith}
 use Prim.Native.Nat.{ℕ, _+_, _-_, _<_, _≤_}
 use lib.ListN.{length}
 use mathlib.Core.Path.{_≡_, refl}
-use Rattle.schoolbook.specs.Rows.{Summed, summed-more}
+use Rattle.rows.specs.Rows.{Summed, summed-more}
 use Rattle.schoolbook.proofs.add_rows.Statement.{statement}
 use Rattle.schoolbook.proofs.add_rows.Tie as tie
 

@@ -1,9 +1,9 @@
--- `schoolbook::four_products` meets its contract. Assumes nothing.
+-- `rows::sum_of_four` meets its contract. Assumes nothing.
 use borrow.Author.Needs.{needs}
 use native.Mathlib.Omega.{arith}
-use Rattle.schoolbook.specs.Rows.{product-below}
-use Rattle.schoolbook.proofs.four_products.Statement.{statement}
-use Rattle.schoolbook.proofs.four_products.Tie as tie
+use Rattle.rows.specs.Rows.{product-below}
+use Rattle.rows.proofs.sum_of_four.Statement.{statement}
+use Rattle.rows.proofs.sum_of_four.Tie as tie
 
 add-times : tie.Need-add-times
 add-times c = search needs
@@ -32,7 +32,7 @@ times-requires-2 c κs = search needs
 add-result : tie.Need-add-result
 add-result c =
     let s = c .before .before .before .before .before .pre in
-    omega (arith, product-below (s .0) (s .5 .place3), product-below (s .1) (s .5 .place2))
+    omega (arith, product-below (s .0 .first) (s .1 .place3), product-below (s .0 .second) (s .1 .place2))
 
 add-times-3 : tie.Need-add-times-3
 add-times-3 c = search needs
@@ -49,7 +49,7 @@ times-requires-3 c κs = search needs
 add-result-2 : tie.Need-add-result-2
 add-result-2 c =
     let s = c .before .before .before .before .before .before .before .pre in
-    omega (arith, product-below (s .0) (s .5 .place3), product-below (s .1) (s .5 .place2), product-below (s .2) (s .5 .place1))
+    omega (arith, product-below (s .0 .first) (s .1 .place3), product-below (s .0 .second) (s .1 .place2), product-below (s .0 .third) (s .1 .place1))
 
 mul-times-4 : tie.Need-mul-times-4
 mul-times-4 c = search needs
@@ -63,13 +63,13 @@ times-requires-4 c κs = search needs
 add-result-3 : tie.Need-add-result-3
 add-result-3 c =
     let s = c .before .before .before .before .before .before .before .before .before .pre in
-    omega (arith, product-below (s .0) (s .5 .place3), product-below (s .1) (s .5 .place2), product-below (s .2) (s .5 .place1), product-below (s .3) (s .5 .place0))
+    omega (arith, product-below (s .0 .first) (s .1 .place3), product-below (s .0 .second) (s .1 .place2), product-below (s .0 .third) (s .1 .place1), product-below (s .0 .fourth) (s .1 .place0))
 
 returns : tie.Need-returns
 returns c = search needs
 
-pub four-products-spec : {M : Type 1} → statement M
-four-products-spec =
+pub sum-of-four-spec : {M : Type 1} → statement M
+sum-of-four-spec =
     tie.close
     (tie.spec
     add-times

@@ -18,7 +18,7 @@
 -- Assumes nothing.
 use Prim.Native.Nat.{ℕ, suc, _+_, _-_, _*_, _/_, _%_, _<_, _≤_, _^_}
 use native.Mathlib.Decide.{decLt}
-use native.Mathlib.Nat.{add-assoc, mul-le-mul, mul-zero}
+use native.Mathlib.Nat.{add-assoc, le-refl, mul-le-mul, mul-zero}
 use native.Mathlib.Omega.{arith}
 use mathlib.Core.Path.{_≡_, refl, sym, ap, _∙_}
 use mathlib.Core.Logic.{_≢_}
@@ -29,25 +29,70 @@ use Rattle.algebra.specs.Lists.{sum-beyond}
 use Rattle.convolution.specs.Halves.{Halves, halves-low, halves-high, halves-more, halves-same}
 use Rattle.definition.specs.Lists.{sum, coefficient}
 use Rattle.definition.specs.Substitution.{productTerm}
+use Rattle.rows.specs.declared.Four.{Four}
+use Rattle.rows.specs.declared.Total.{Total}
 
 pub record Below (b : ℕ) (l : List ℕ) : Type 0 where
   pub place : (j : ℕ) → getD l j 0 < b
 
-pub record FourBelow (b : ℕ) (l : List ℕ) (e : ℕ) : Type 0 where
-  pub place3 : getD l (e + 3) 0 < b
-  pub place2 : getD l (e + 2) 0 < b
-  pub place1 : getD l (e + 1) 0 < b
-  pub place0 : getD l e 0 < b
+-- the four places from i on
+pub record IsFour (f : Four) (x : List ℕ) (i : ℕ) : Type 0 where
+  pub first : f .a ≡ getD x i 0
+  pub second : f .b ≡ getD x (i + 1) 0
+  pub third : f .c ≡ getD x (i + 2) 0
+  pub fourth : f .d ≡ getD x (i + 3) 0
 
-pub four-below : {b : ℕ} {l : List ℕ} → Below b l → (e : ℕ) → FourBelow b l e
-four-below h e = record { place3 = h .place (e + 3); place2 = h .place (e + 2); place1 = h .place (e + 1); place0 = h .place e }
+pub record FourBelow (m : ℕ) (f : Four) : Type 0 where
+  pub first : f .a < m
+  pub second : f .b < m
+  pub third : f .c < m
+  pub fourth : f .d < m
+
+pub four-below : {m i : ℕ} {f : Four} {x : List ℕ} → Below m x → IsFour f x i → FourBelow m f
+four-below {m} {i} h f = record {
+  first = rw (f .first) (h .place i);
+  second = rw (f .second) (h .place (i + 1));
+  third = rw (f .third) (h .place (i + 2));
+  fourth = rw (f .fourth) (h .place (i + 3));
+}
+
+pub record PlacesBelow (m : ℕ) (y : List ℕ) (e : ℕ) : Type 0 where
+  pub inside : e + 3 < length y
+  pub place3 : getD y (e + 3) 0 < m
+  pub place2 : getD y (e + 2) 0 < m
+  pub place1 : getD y (e + 1) 0 < m
+  pub place0 : getD y e 0 < m
+
+pub places-below : {m : ℕ} {y : List ℕ} → Below m y → (e : ℕ) → e + 3 < length y → PlacesBelow m y e
+places-below h e inside = record {
+  inside = inside;
+  place3 = h .place (e + 3);
+  place2 = h .place (e + 2);
+  place1 = h .place (e + 1);
+  place0 = h .place e;
+}
 
 pub product-below : {a b : ℕ} → a < 2 ^ 31 → b < 2 ^ 31 → a * b ≤ (2 ^ 31 - 1) * (2 ^ 31 - 1)
 product-below h k = mul-le-mul {n₂ = 2 ^ 31 - 1} {m₂ = 2 ^ 31 - 1} (omega arith) (omega arith)
 
--- a y_(e + 3) + b y_(e + 2) + c y_(e + 1) + d y_e
-abbrev pub fourProducts : ℕ → ℕ → ℕ → ℕ → List ℕ → ℕ → ℕ
-fourProducts a b c d y e = a * getD y (e + 3) 0 + b * getD y (e + 2) 0 + c * getD y (e + 1) 0 + d * getD y e 0
+-- four products, the places of y taken downwards
+abbrev pub fourProducts : Four → List ℕ → ℕ → ℕ
+fourProducts f y e = f .a * getD y (e + 3) 0 + f .b * getD y (e + 2) 0 + f .c * getD y (e + 1) 0 + f .d * getD y e 0
+
+-- a total in two halves, each at most m times 2^32 - 1
+pub record IsTotal (m number : ℕ) (s : Total) : Type 0 where
+  pub whole : 2 ^ 32 * s .high + s .low ≡ number
+  pub low-small : s .low ≤ m * (2 ^ 32 - 1)
+  pub high-small : s .high ≤ m * (2 ^ 32 - 1)
+
+pub total-eight : (v w : ℕ) → v < 2 ^ 64 → w < 2 ^ 64 → {t : Total} → t .low ≡ v % 2 ^ 32 + w % 2 ^ 32 → t .high ≡ v / 2 ^ 32 + w / 2 ^ 32
+    → IsTotal 8 (v + w) t
+total-eight v w h g l u = record { whole = omega arith; low-small = omega arith; high-small = omega arith }
+
+pub total-four : (a b c d : ℕ) → a < 2 ^ 64 → b < 2 ^ 64 → c < 2 ^ 64 → d < 2 ^ 64 → {t : Total}
+    → t .low ≡ a % 2 ^ 32 + b % 2 ^ 32 + c % 2 ^ 32 + d % 2 ^ 32 → t .high ≡ a / 2 ^ 32 + b / 2 ^ 32 + c / 2 ^ 32 + d / 2 ^ 32
+    → IsTotal 4 (a + b + c + d) t
+total-four a b c d f g h k l u = record { whole = omega arith; low-small = omega arith; high-small = omega arith }
 
 pub record Factors (b n : ℕ) (x y : List ℕ) : Type 0 where
   pub order : n ≤ 128
@@ -80,24 +125,21 @@ four i f =
     let d : i + 1 ≡ suc i = omega arith in
     rw a (rw b (rw c (rw d (omega arith))))
 
--- what rows i to i + 3 add to place k
-abbrev pub fourRows : ℕ → List ℕ → List ℕ → ℕ → ℕ
-fourRows i x y e = fourProducts (getD x i 0) (getD x (i + 1) 0) (getD x (i + 2) 0) (getD x (i + 3) 0) y e
-
-pub four-rows : (x y : List ℕ) (i k e : ℕ) → i + e ≡ k + 4 → sum (i + 4) (term x y k) ≡ sum i (term x y k) + fourRows i x y e
+pub four-rows : {f : Four} (x y : List ℕ) (i k e : ℕ) → IsFour f x i → i + e ≡ k + 4
+    → sum (i + 4) (term x y k) ≡ sum i (term x y k) + fourProducts f y e
 unfolding productTerm coefficient
-four-rows x y i k e h =
+four-rows x y i k e is h =
     let a : k + 7 - i ≡ e + 3 = omega arith in
     let b : k + 7 - (i + 1) ≡ e + 2 = omega arith in
     let c : k + 7 - (i + 2) ≡ e + 1 = omega arith in
     let d : k + 7 - (i + 3) ≡ e = omega arith in
-    rw (four i (term x y k), a, b, c, d)
+    rw (four i (term x y k), a, b, c, d, is .first, is .second, is .third, is .fourth)
 
-pub eight-rows : (x y : List ℕ) (i k e : ℕ) → i + e ≡ k
-    → sum (i + 8) (term x y k) ≡ sum i (term x y k) + (fourRows i x y (e + 4) + fourRows (i + 4) x y e)
-eight-rows x y i k e h =
+pub eight-rows : {f g : Four} (x y : List ℕ) (i k e : ℕ) → IsFour f x i → IsFour g x (i + 4) → i + e ≡ k
+    → sum (i + 8) (term x y k) ≡ sum i (term x y k) + (fourProducts f y (e + 4) + fourProducts g y e)
+eight-rows x y i k e is js h =
     let a : i + 8 ≡ i + 4 + 4 = omega arith in
-    rw a (four-rows x y (i + 4) k e (omega arith) ∙ rw (four-rows x y i k (e + 4) (omega arith)) (add-assoc _ _ _))
+    rw a (four-rows x y (i + 4) k e js (omega arith) ∙ rw (four-rows x y i k (e + 4) is (omega arith)) (add-assoc _ _ _))
 
 pub record Summed (i n : ℕ) (x y low high : List ℕ) : Type 0 where
   pub low-room : n ≤ length low
@@ -144,16 +186,19 @@ module _ {m i k n : ℕ} {x y low high : List ℕ} where
     place = λ j l. s .done j (omega arith) l;
   }
 
-  pub pass-low : Pass m i k n x y low high → k < n → i ≤ 2 ^ 30 → getD low k 0 < 2 ^ 63
-  pass-low s h b = halves-low (s .due k (omega arith) h) b
+  pub pass-fits : Pass m i k n x y low high → k < n → i ≤ 2 ^ 30 → m ≤ 8 → {total : ℕ} {a : Total} → IsTotal m total a
+      → (getD low k 0 + a .low < 2 ^ 64) × (getD high k 0 + a .high < 2 ^ 64)
+  pass-fits s h b few a =
+      let small : m * (2 ^ 32 - 1) ≤ 8 * (2 ^ 32 - 1) = mul-le-mul few (le-refl (2 ^ 32 - 1)) in
+      let due = s .due k (omega arith) h in (
+        omega (arith, halves-low due b, a .low-small),
+        omega (arith, halves-high due b, a .high-small),
+      )
 
-  pub pass-high : Pass m i k n x y low high → k < n → i ≤ 2 ^ 30 → getD high k 0 < 2 ^ 63
-  pass-high s h b = halves-high (s .due k (omega arith) h) b
-
-  pub pass-next : Pass m i k n x y low high → k < n
-      → (l h : ℕ) → sum (i + m) (term x y k) ≡ sum i (term x y k) + (2 ^ 32 * h + l) → l ≤ m * (2 ^ 32 - 1) → h ≤ m * (2 ^ 32 - 1)
-      → Pass m i (k + 1) n x y (set low k (getD low k 0 + l)) (set high k (getD high k 0 + h))
-  pass-next s inside l h total small-l small-h = record {
+  pub pass-next : Pass m i k n x y low high → k < n → {total : ℕ} {a : Total} → IsTotal m total a
+      → sum (i + m) (term x y k) ≡ sum i (term x y k) + total
+      → Pass m i (k + 1) n x y (set low k (getD low k 0 + a .low)) (set high k (getD high k 0 + a .high))
+  pass-next s inside {total} {a} sp e = record {
     low-room = rw length-set (s .low-room);
     high-room = rw length-set (s .high-room);
     done = λ j b c. at j c (decLt j k) b;
@@ -164,48 +209,9 @@ module _ {m i k n : ℕ} {x y low high : List ℕ} where
       other l a j d = getD-set-other l k j a 0 d
 
       at : (j : ℕ) → j < n → Dec (j < k) → j < k + 1
-          → Halves 0 (term x y j) (i + m) (getD (set low k (getD low k 0 + l)) j 0) (getD (set high k (getD high k 0 + h)) j 0)
-      at j c (yes b) e = rw (other low _ j (λ d. omega arith), other high _ j (λ d. omega arith)) (s .done j b c)
-      at j c (no b) e =
+          → Halves 0 (term x y j) (i + m) (getD (set low k (getD low k 0 + a .low)) j 0) (getD (set high k (getD high k 0 + a .high)) j 0)
+      at j c (yes b) h = rw (other low _ j (λ d. omega arith), other high _ j (λ d. omega arith)) (s .done j b c)
+      at j c (no b) h =
           let same : j ≡ k = omega arith in
           rw (same, getD-set-same low k _ 0 (omega (arith, s .low-room)), getD-set-same high k _ 0 (omega (arith, s .high-room)))
-          (halves-more (s .due k (omega arith) inside) m l h total small-l small-h)
-
--- the halves of two and of four numbers
-pub low-two : (v w : ℕ) → v % 2 ^ 32 + w % 2 ^ 32 ≤ 8 * (2 ^ 32 - 1)
-low-two v w = omega arith
-
-pub high-two : {v w : ℕ} → v < 2 ^ 64 → w < 2 ^ 64 → v / 2 ^ 32 + w / 2 ^ 32 ≤ 8 * (2 ^ 32 - 1)
-high-two h g = omega arith
-
-pub low-four : (a b c d : ℕ) → a % 2 ^ 32 + b % 2 ^ 32 + c % 2 ^ 32 + d % 2 ^ 32 ≤ 4 * (2 ^ 32 - 1)
-low-four a b c d = omega arith
-
-pub high-four : {a b c d : ℕ} → a < 2 ^ 64 → b < 2 ^ 64 → c < 2 ^ 64 → d < 2 ^ 64
-    → a / 2 ^ 32 + b / 2 ^ 32 + c / 2 ^ 32 + d / 2 ^ 32 ≤ 4 * (2 ^ 32 - 1)
-high-four f g h k = omega arith
-
-pub fits-two : {a b : ℕ} → a < 2 ^ 63 → b ≤ 8 * (2 ^ 32 - 1) → a + b < 2 ^ 64
-fits-two h g = omega arith
-
-pub fits-four : {a b : ℕ} → a < 2 ^ 63 → b ≤ 4 * (2 ^ 32 - 1) → a + b < 2 ^ 64
-fits-four h g = omega arith
-
-module _ {i k n : ℕ} {x y low high : List ℕ} where
-  pub pass-eight : Pass 8 i k n x y low high → k < n → (e : ℕ) → i + e ≡ k → {v w : ℕ} → v < 2 ^ 64 → w < 2 ^ 64
-      → v ≡ fourRows i x y (e + 4) → w ≡ fourRows (i + 4) x y e
-      → Pass 8 i (k + 1) n x y
-      (set low k (getD low k 0 + (v % 2 ^ 32 + w % 2 ^ 32))) (set high k (getD high k 0 + (v / 2 ^ 32 + w / 2 ^ 32)))
-  pass-eight s inside e at {v} {w} fits-v fits-w is-v is-w =
-      let whole : v + w ≡ 2 ^ 32 * (v / 2 ^ 32 + w / 2 ^ 32) + (v % 2 ^ 32 + w % 2 ^ 32) = omega arith in
-      pass-next s inside _ _ (rw (← whole, is-v, is-w) (eight-rows x y i k e at)) (low-two v w) (high-two fits-v fits-w)
-
-  pub pass-four : Pass 4 i k n x y low high → k < n → (e : ℕ) → i + e ≡ k + 4
-      → {a b c d : ℕ} → a < 2 ^ 64 → b < 2 ^ 64 → c < 2 ^ 64 → d < 2 ^ 64 → a + b + c + d ≡ fourRows i x y e
-      → Pass 4 i (k + 1) n x y
-      (set low k (getD low k 0 + (a % 2 ^ 32 + b % 2 ^ 32 + c % 2 ^ 32 + d % 2 ^ 32)))
-      (set high k (getD high k 0 + (a / 2 ^ 32 + b / 2 ^ 32 + c / 2 ^ 32 + d / 2 ^ 32)))
-  pass-four s inside e at {a} {b} {c} {d} fits-a fits-b fits-c fits-d total =
-      let whole : a + b + c + d
-      ≡ 2 ^ 32 * (a / 2 ^ 32 + b / 2 ^ 32 + c / 2 ^ 32 + d / 2 ^ 32) + (a % 2 ^ 32 + b % 2 ^ 32 + c % 2 ^ 32 + d % 2 ^ 32) = omega arith in
-      pass-next s inside _ _ (rw (← whole, total) (four-rows x y i k e at)) (low-four a b c d) (high-four fits-a fits-b fits-c fits-d)
+          (halves-more (s .due k (omega arith) inside) m (a .low) (a .high) (rw (sp .whole) e) (sp .low-small) (sp .high-small))

@@ -1,0 +1,130 @@
+-- `rows::add_four_rows` meets its contract: the rows are added at the places below t. Assumes nothing.
+use borrow.Author.Needs.{needs}
+use native.Mathlib.Omega.{arith}
+use Prim.Native.Nat.{ℕ, _+_, _-_, _<_, _≤_, _^_}
+use lib.ListN.{length}
+use mathlib.Core.Path.{_≡_, refl}
+use Rattle.rows.specs.Rows.{Pass, four-rows, four-below, pass-first, pass-fits, pass-last, pass-next, places-below}
+use Rattle.rows.proofs.add_four_rows.Statement.{statement}
+use Rattle.rows.proofs.add_four_rows.Tie as tie
+
+abbrev Inv-loop : tie.InvT-loop
+Inv-loop i n x y low₀ high₀ f t₀ low high t =
+    (i ≤ t) × (length low ≡ length low₀) × (length high ≡ length high₀) × Pass 4 i t n x y low high
+
+abbrev μ-loop : tie.MeasureT-loop
+μ-loop i n x y low₀ high₀ f t₀ low high t = n - t
+
+places-requires : tie.Need-places-requires Inv-loop μ-loop
+places-requires c κs = search needs
+
+loop-holds : tie.Need-loop-holds Inv-loop μ-loop
+loop-holds c =
+    let start = c .before .before .before .before .before in
+    (search needs, refl, refl, pass-first (start .pre .0) 4 (start .pre .2))
+
+abbrev start : tie.At-loop Inv-loop μ-loop → tie.Start Inv-loop μ-loop
+start c = c .before .before .before .before .before .before
+
+few : (c : tie.At-loop Inv-loop μ-loop) → start c .args .i ≤ 2 ^ 30
+few c = omega (arith, start c .pre .0 .order, start c .pre .1)
+
+reach : {i t : ℕ} → i ≤ t → i + (t - i + 4) ≡ t + 4
+reach h = omega arith
+
+nearer : {n t : ℕ} → t < n → n - (t + 1) < n - t
+nearer h = omega arith
+
+sub-four-products : tie.Need-sub-four-products Inv-loop μ-loop
+sub-four-products c = search needs
+
+add-four-products : tie.Need-add-four-products Inv-loop μ-loop
+add-four-products c = search needs
+
+four-products-requires : tie.Need-four-products-requires Inv-loop μ-loop
+four-products-requires c κs =
+    let at = c .before in
+    let factors = start at .pre .0 in (
+      four-below (factors .left-below) (at .before .places .ensures),
+      places-below (factors .right-below) _ (omega (arith, factors .right)),
+    )
+
+mul-low : tie.Need-mul-low Inv-loop μ-loop
+mul-low c = search needs
+
+slice-read-low : tie.Need-slice-read-low Inv-loop μ-loop
+slice-read-low c = search needs
+
+add-low : tie.Need-add-low Inv-loop μ-loop
+add-low c =
+    let turn = c .before .before .before in
+    record { fits = pass-fits (turn .before .loop .inv .3) (turn .loop-test .taken) (few (turn .before)) (omega arith) (c .before .before .four-products .ensures) .0 }
+
+slice-write-low : tie.Need-slice-write-low Inv-loop μ-loop
+slice-write-low c = search needs
+
+mul-high : tie.Need-mul-high Inv-loop μ-loop
+mul-high c = search needs
+
+slice-read-high : tie.Need-slice-read-high Inv-loop μ-loop
+slice-read-high c = search needs
+
+add-high : tie.Need-add-high Inv-loop μ-loop
+add-high c =
+    let turn = c .before .before .before .before .before in
+    record { fits = pass-fits (turn .before .loop .inv .3) (turn .loop-test .taken) (few (turn .before)) (omega arith) (c .before .before .before .before .four-products .ensures) .1 }
+
+slice-write-high : tie.Need-slice-write-high Inv-loop μ-loop
+slice-write-high c = search needs
+
+add-t : tie.Need-add-t Inv-loop μ-loop
+add-t c = search needs
+
+loop-less : tie.Need-loop-less Inv-loop μ-loop
+loop-less c = nearer (c .before .before .before .before .before .loop-test .taken)
+
+loop-again : tie.Need-loop-again Inv-loop μ-loop
+loop-again c =
+    let turn = c .before .before .before .before .before in
+    let at = turn .before in (
+      omega arith,
+      search needs,
+      search needs,
+      pass-next (at .loop .inv .3) (turn .loop-test .taken) (c .before .before .before .before .four-products .ensures)
+          (four-rows _ _ _ _ _ (at .before .places .ensures) (reach (at .loop .inv .0))),
+    )
+
+same-length : tie.Need-same-length Inv-loop μ-loop
+same-length c = search needs
+
+same-length-2 : tie.Need-same-length-2 Inv-loop μ-loop
+same-length-2 c = search needs
+
+returns : tie.Need-returns Inv-loop μ-loop
+returns c = pass-last (c .before .loop .inv .3) (omega arith)
+
+pub add-four-rows-spec : {M : Type 1} → statement M
+add-four-rows-spec =
+    tie.close
+    (tie.spec
+    Inv-loop
+    μ-loop
+    places-requires
+    loop-holds
+    sub-four-products
+    add-four-products
+    four-products-requires
+    mul-low
+    slice-read-low
+    add-low
+    slice-write-low
+    mul-high
+    slice-read-high
+    add-high
+    slice-write-high
+    add-t
+    loop-less
+    loop-again
+    same-length
+    same-length-2
+    returns)

@@ -1,0 +1,4 @@
+-- The laws behind a pass over the places.
+--
+--   Rows   rows of the multiplication by hand, added to sums in two halves
+pub mod Rows

@@ -1,0 +1,108 @@
+// Rows of the multiplication by hand: row j is place j of one factor times the other factor. Some rows are added in one pass over the places.
+// The sum of a place is exact, its low and high halves kept apart.
+ghost use mathlib.Core.Path.{_≡_};
+ghost use Prim.Native.Nat.{_+_, _*_, _<_, _^_};
+ghost use lib.ListN.{length};
+ghost use Rattle.rows.specs.Rows.{Factors, FourBelow, IsFour, IsTotal, PlacesBelow, Summed, fourProducts};
+
+// The product of two 32-bit numbers. The remainders change nothing; they tell the compiler that a vector instruction will do.
+fn times(a: u64, b: u64) -> u64
+    requires { ⌜ (a < 2 ^ 32) × (b < 2 ^ 32) ⌝ }
+    ensures { λ r. ⌜ r ≡ a * b ⌝ }
+{
+    (a % 4294967296) * (b % 4294967296)
+}
+
+// Four neighbouring places of a list.
+struct Four {
+    a: u64,
+    b: u64,
+    c: u64,
+    d: u64,
+}
+
+// The number 2^32 high + low.
+struct Total {
+    low: u64,
+    high: u64,
+}
+
+// Places i to i + 3.
+fn places(x: &[u64], i: usize) -> Four
+    requires { ⌜ i + 3 < length (now x) ⌝ }
+    ensures { λ r. ⌜ IsFour r (now (x .entry)) i ⌝ }
+{
+    Four {
+        a: x[i],
+        b: x[i + 1],
+        c: x[i + 2],
+        d: x[i + 3],
+    }
+}
+
+// The sum of four products of numbers below 2^31: it fits 64 bits.
+fn sum_of_four(f: Four, y: &[u64], e: usize) -> u64
+    requires { ⌜ FourBelow (2 ^ 31) f × PlacesBelow (2 ^ 31) (now y) e ⌝ }
+    ensures { λ r. ⌜ r ≡ fourProducts f (now (y .entry)) e ⌝ }
+{
+    times(f.a, y[e + 3]) + times(f.b, y[e + 2]) + times(f.c, y[e + 1]) + times(f.d, y[e])
+}
+
+// Eight products of numbers below 2^31, in two sums of four.
+fn eight_products(f: Four, g: Four, y: &[u64], e: usize) -> Total
+    requires { ⌜ FourBelow (2 ^ 31) f × FourBelow (2 ^ 31) g × PlacesBelow (2 ^ 31) (now y) e × PlacesBelow (2 ^ 31) (now y) (e + 4) ⌝ }
+    ensures { λ r. ⌜ IsTotal 8 (fourProducts f (now (y .entry)) (e + 4) + fourProducts g (now (y .entry)) e) r ⌝ }
+{
+    let v = sum_of_four(f, y, e + 4);
+    let w = sum_of_four(g, y, e);
+    Total {
+        low: v % 4294967296 + w % 4294967296,
+        high: v / 4294967296 + w / 4294967296,
+    }
+}
+
+// Four products of 32-bit numbers, each split into its halves.
+fn four_products(f: Four, y: &[u64], e: usize) -> Total
+    requires { ⌜ FourBelow (2 ^ 32) f × PlacesBelow (2 ^ 32) (now y) e ⌝ }
+    ensures { λ r. ⌜ IsTotal 4 (fourProducts f (now (y .entry)) e) r ⌝ }
+{
+    let a = times(f.a, y[e + 3]);
+    let b = times(f.b, y[e + 2]);
+    let c = times(f.c, y[e + 1]);
+    let d = times(f.d, y[e]);
+    Total {
+        low: a % 4294967296 + b % 4294967296 + c % 4294967296 + d % 4294967296,
+        high: a / 4294967296 + b / 4294967296 + c / 4294967296 + d / 4294967296,
+    }
+}
+
+// Adds rows i to i + 7, where the factors are below 2^31.
+pub fn add_eight_rows(i: usize, n: usize, x: &[u64], y: &[u64], low: &mut [u64], high: &mut [u64])
+    requires { ⌜ Factors (2 ^ 31) n (now x) (now y) × (i < n) × Summed i n (now x) (now y) (now low) (now high) ⌝ }
+    ensures { λ r. ⌜ Summed (i + 8) n (now (x .entry)) (now (y .entry)) (now (low .exit)) (now (high .exit)) ⌝ }
+{
+    let f = places(x, i);
+    let g = places(x, i + 4);
+    let mut t = i;
+    while t < n {
+        let s = eight_products(f, g, y, t - i);
+        low[t] += s.low;
+        high[t] += s.high;
+        t += 1;
+    }
+}
+
+// Adds rows i to i + 3.
+pub fn add_four_rows(i: usize, n: usize, x: &[u64], y: &[u64], low: &mut [u64], high: &mut [u64])
+    requires { ⌜ Factors (2 ^ 32) n (now x) (now y) × (i < n + 4) × Summed i n (now x) (now y) (now low) (now high) ⌝ }
+    ensures { λ r. ⌜ Summed (i + 4) n (now (x .entry)) (now (y .entry)) (now (low .exit)) (now (high .exit)) ⌝ }
+{
+    let f = places(x, i);
+    let mut t = i;
+    while t < n {
+        let s = four_products(f, y, t - i + 4);
+        low[t] += s.low;
+        high[t] += s.high;
+        t += 1;
+    }
+}
