@@ -2,16 +2,17 @@
 --
 --   Filling f t n before now k   the first k of the n places of the table of f are written from place t on
 --   filling-first filling-next filling-last   before the first turn, after one more, and after the last
+--   filling-before filling-after   the places before the table, and those that are still to be written, are as they were
 -- Assumes nothing.
 use Prim.Native.Nat.{ℕ, _+_, _<_, _≤_}
 use native.Mathlib.Numerals.{add-one}
 use native.Mathlib.Omega.{arith}
 use mathlib.Core.List.{List}
 use mathlib.Core.Path.{_≡_, refl, _∙_}
-use lib.ListN.{length, set, length-set}
+use lib.ListN.{length, getD, set, length-set}
 use lib.Seq.{sets}
 use Rattle.algebra.specs.Lists.{length-tabulate}
-use Rattle.buffer.specs.Written.{sets-snoc}
+use Rattle.buffer.specs.Written.{getD-sets-after, getD-sets-other, sets-snoc}
 use Rattle.definition.specs.Lists.{tabulate}
 
 pub record Filling (f : ℕ → ℕ) (t n : ℕ) (before now : List ℕ) (k : ℕ) : Type 0 where
@@ -40,3 +41,9 @@ module _ {f : ℕ → ℕ} {t n : ℕ} {before now : List ℕ} {k : ℕ} (fillin
   filling-last past =
       let all : k ≡ n = omega (arith, filling .few) in
       filling .same ∙ rw all
+
+  pub filling-before : (i : ℕ) → i < t → getD now i 0 ≡ getD before i 0
+  filling-before i below = rw (filling .same) (getD-sets-other before t (tabulate k f) i 0 (λ j h e. omega arith))
+
+  pub filling-after : (i : ℕ) → t + k ≤ i → getD now i 0 ≡ getD before i 0
+  filling-after i past = rw (filling .same) (getD-sets-after before t (tabulate k f) i 0 (rw length-tabulate past))

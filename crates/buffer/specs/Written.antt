@@ -10,6 +10,7 @@
 --   take-sets, drop-sets                     the parts before and after a write
 --   drop-sets-inside                         a write within the part that is kept
 --   part-sets           the part that was written
+--   front-sets          the same at the front of a list
 --   sets-part           a part lent from place i on and come back as vs
 --   sets-front          a part lent from place 0 on and come back as vs
 --   length-part         the length of k places from place i on
@@ -21,7 +22,7 @@ use native.Mathlib.Nat.{add-zero, add-suc, suc-add, le-of-eq}
 use native.Mathlib.Numerals.{add-one}
 use native.Mathlib.Omega.{arith}
 use mathlib.Core.Logic.{_≢_}
-use mathlib.Core.Path.{_≡_, refl, sym, _∙_}
+use mathlib.Core.Path.{_≡_, refl, sym, ap, _∙_}
 use mathlib.Core.List.{List, [], _∷_, _++_, append-assoc, append-nil}
 use lib.ListN.{length, getD, take, drop, set, replicate, length-drop, length-replicate, drop-of-length-le}
 use lib.Seq.{sets, sets-eq, set-comm, set-set, take-set-le, drop-set-lt, drop-set-add, getD-set-other, drop-drop, drop-at, length-take-le, take-append-seam, getD-drop, getD-take, drop-length, take-suc}
@@ -78,6 +79,9 @@ module _ {A : Type 0} where
   pub part-sets : (l : List A) (i : ℕ) (vs : List A) → i + length vs ≤ length l → take (length vs) (drop i (sets l i vs)) ≡ vs
   part-sets l i vs h =
       rw (sets-eq vs l i h, append-assoc, drop-at _ _ i (length-take-le i l (omega arith))) (take-append-seam vs _)
+
+  pub front-sets : (n : ℕ) (l vs : List A) {after : List A} → after ≡ sets l 0 vs → length vs ≡ n → n ≤ length l → take n after ≡ vs
+  front-sets n l vs written size h = ap (take n) written ∙ rw size at (part-sets l 0 vs (omega arith))
 
   pub getD-sets-inside : (l : List A) (i : ℕ) (vs : List A) (j : ℕ) (d : A) → i + length vs ≤ length l → j < length vs
       → getD (sets l i vs) (i + j) d ≡ getD vs j d

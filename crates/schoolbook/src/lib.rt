@@ -8,14 +8,6 @@ ghost use Rattle.definition.specs.Substitution.{cutProduct};
 ghost use Rattle.rows.specs.Rows.{Factors, Summed};
 ghost use Rattle.schoolbook.specs.Remainders.{remainderList, residueList, Small};
 
-// x modulo p. Most numbers are below p already.
-fn reduced(p: u32, x: u32) -> u32
-    requires { ⌜ 0 < p ⌝ }
-    ensures { λ r. ⌜ r ≡ x % p ⌝ }
-{
-    if x < p { x } else { x % p }
-}
-
 // A number as a wider one.
 fn wide(x: u32) -> u64
     ensures { λ r. ⌜ r ≡ x ⌝ }
@@ -30,7 +22,7 @@ fn widen(p: u32, n: usize, x: &[u32], at: usize, into: &mut [u64])
 {
     let mut i = 0;
     while i < n {
-        into[at + i] = wide(reduced(p, x[i]));
+        into[at + i] = wide(residue::reduced(p, x[i]));
         i += 1;
     }
 }

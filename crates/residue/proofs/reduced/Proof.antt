@@ -1,9 +1,9 @@
--- `schoolbook::reduced` meets its contract: a number below p is its own remainder. Assumes nothing.
+-- `residue::reduced` meets its contract: a number below p is its own remainder. Assumes nothing.
 use borrow.Author.Needs.{needs}
 use native.Mathlib.Nat.{mod-eq-of-lt}
 use mathlib.Core.Path.{sym}
-use Rattle.schoolbook.proofs.reduced.Statement.{statement}
-use Rattle.schoolbook.proofs.reduced.Tie as tie
+use Rattle.residue.proofs.reduced.Statement.{statement}
+use Rattle.residue.proofs.reduced.Tie as tie
 
 rem-result : tie.Need-rem-result
 rem-result c = search needs

@@ -1,0 +1,56 @@
+-- A product of two parts of a list, added to a third part.
+--
+--   Residues p n z         the first n places of z are below p
+--   addedAt p t w z k      place t + k of w plus place k of z, modulo p
+--   Parts p n a b t w      what `add_product` requires: three parts of n places inside w
+--   Added                  what it ensures
+--   residues-product       the first n places are residues where they are a product
+--   added-joined           the sum with a product
+--   length-cutProduct      a product has n places
+-- Assumes nothing.
+use Prim.Native.Nat.{ℕ, _+_, _%_, _<_, _≤_}
+use native.Mathlib.Nat.{add-mod-mod, mod-lt}
+use native.Mathlib.Omega.{arith}
+use mathlib.Core.List.{List}
+use mathlib.Core.Path.{_≡_, sym, ap, _∙_}
+use lib.ListN.{length, getD, take, drop}
+use lib.Seq.{sets, getD-drop, getD-take}
+use Rattle.algebra.specs.Lists.{coefficient-tabulate, length-tabulate, tabulate-cong}
+use Rattle.definition.specs.Lists.{coefficient, tabulate}
+use Rattle.definition.specs.Ranged.{joined, joinedAt}
+use Rattle.definition.specs.Substitution.{cutProduct, cutProductAt, product}
+
+pub record Residues (p n : ℕ) (z : List ℕ) : Type 0 where
+  pub room : n ≤ length z
+  pub place : (k : ℕ) → k < n → getD z k 0 < p
+
+unfoldable pub addedAt : ℕ → ℕ → List ℕ → List ℕ → ℕ → ℕ
+addedAt p t w z k = (coefficient w (t + k) + coefficient z k) % p
+
+pub record Parts (p n a b t : ℕ) (w : List ℕ) : Type 0 where
+  pub modulus : 0 < p
+  pub order : n ≤ 4096
+  pub left : a + n ≤ length w
+  pub right : b + n ≤ length w
+  pub target : t + n ≤ length w
+
+pub record Added (p n a b t : ℕ) (before after : List ℕ) : Type 0 where
+  pub written : after ≡ sets before t (joined p n (take n (drop t before)) (take n (drop a before)) (take n (drop b before)))
+
+module _ {p : ℕ} (l : 0 < p) (n : ℕ) (z u v : List ℕ) (e : take n z ≡ cutProduct p n u v) where
+  place-product : (k : ℕ) → k < n → getD z k 0 ≡ product (coefficient u) (coefficient v) k % p
+  unfolding cutProduct cutProductAt coefficient
+  place-product k h =
+      sym (getD-take n z k 0 h) ∙ ap (λ s. getD s k 0) e ∙ coefficient-tabulate n (cutProductAt p u v) k h
+
+  pub residues-product : n ≤ length z → Residues p n z
+  residues-product room = record { room = room; place = λ k h. rw (place-product k h) (mod-lt _ l) }
+
+  pub added-joined : (t : ℕ) (w : List ℕ) → tabulate n (addedAt p t w z) ≡ joined p n (take n (drop t w)) u v
+  unfolding addedAt joined joinedAt coefficient
+  added-joined t w = tabulate-cong n (addedAt p t w z) (joinedAt p (take n (drop t w)) u v)
+      (λ k h. rw (place-product k h, add-mod-mod, getD-take n (drop t w) k 0 h, getD-drop))
+
+pub length-cutProduct : (p n : ℕ) (u v : List ℕ) → length (cutProduct p n u v) ≡ n
+unfolding cutProduct
+length-cutProduct p n u v = length-tabulate n (cutProductAt p u v)

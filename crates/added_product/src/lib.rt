@@ -1,0 +1,46 @@
+// The product of two parts of a list modulo p, added to a third part, at most 4096 places each. The factors are read before the target is
+// written, so that the parts may lie in any way.
+ghost use mathlib.Core.Path.{_≡_};
+ghost use Prim.Native.Nat.{_+_, _*_, _<_, _≤_};
+ghost use lib.ListN.{length, take, drop};
+ghost use lib.Seq.{sets};
+ghost use Rattle.definition.specs.Lists.{tabulate};
+ghost use Rattle.schoolbook.specs.Remainders.{residueList};
+ghost use Rattle.added_product.specs.Added.{Added, Parts, Residues, addedAt};
+
+// The first n places of z become those of x modulo p.
+fn load(p: u32, n: usize, x: &[u32], z: &mut [u32])
+    requires { ⌜ (0 < p) × (n ≤ length (now x)) × (n ≤ length (now z)) ⌝ }
+    ensures { λ r. ⌜ now (z .exit) ≡ sets (now (z .entry)) 0 (residueList p n (now (x .entry))) ⌝ }
+{
+    let mut i = 0;
+    while i < n {
+        z[i] = residue::reduced(p, x[i]);
+        i += 1;
+    }
+}
+
+// Adds the first n places of z, which are residues, to the n places of w from t on.
+fn add_places(p: u32, n: usize, z: &[u32], w: &mut [u32], t: usize)
+    requires { ⌜ (0 < p) × Residues p n (now z) × (t + n ≤ length (now w)) ⌝ }
+    ensures { λ r. ⌜ now (w .exit) ≡ sets (now (w .entry)) t (tabulate n (addedAt p t (now (w .entry)) (now (z .entry)))) ⌝ }
+{
+    let mut k = 0;
+    while k < n {
+        let c = residue::reduced(p, w[t + k]);
+        w[t + k] = residue::sum(p, c, z[k]);
+        k += 1;
+    }
+}
+
+// For at most 128 places: the product by rows.
+fn add_by_rows(p: u32, n: usize, w: &mut [u32], a: usize, b: usize, t: usize)
+    requires { ⌜ Parts p n a b t (now w) × (n ≤ 128) ⌝ }
+    ensures { λ r. ⌜ Added p n a b t (now (w .entry)) (now (w .exit)) ⌝ }
+{
+    let mut z: [u32; 128] = [0; 128];
+    let end_a = a + n;
+    let end_b = b + n;
+    schoolbook::cut_product(p, n, &w[a..end_a], &w[b..end_b], &mut z);
+    add_places(p, n, &z, w, t);
+}
