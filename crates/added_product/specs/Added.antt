@@ -1,6 +1,5 @@
 -- A product of two parts of a list, added to a third part.
 --
---   Residues p n z         the first n places of z are below p
 --   addedAt p t w z k      place t + k of w plus place k of z, modulo p
 --   Parts p n a b t w      what `add_product` requires: three parts of n places inside w
 --   Added                  what it ensures
@@ -19,10 +18,7 @@ use Rattle.algebra.specs.Lists.{coefficient-tabulate, length-tabulate, tabulate
 use Rattle.definition.specs.Lists.{coefficient, tabulate}
 use Rattle.definition.specs.Ranged.{joined, joinedAt}
 use Rattle.definition.specs.Substitution.{cutProduct, cutProductAt, product}
-
-pub record Residues (p n : ℕ) (z : List ℕ) : Type 0 where
-  pub room : n ≤ length z
-  pub place : (k : ℕ) → k < n → getD z k 0 < p
+use Rattle.karatsuba.specs.Halves.{Residues}
 
 unfoldable pub addedAt : ℕ → ℕ → List ℕ → List ℕ → ℕ → ℕ
 addedAt p t w z k = (coefficient w (t + k) + coefficient z k) % p
@@ -43,8 +39,9 @@ module _ {p : ℕ} (l : 0 < p) (n : ℕ) (z u v : List ℕ) (e : take n z ≡ cu
   place-product k h =
       sym (getD-take n z k 0 h) ∙ ap (λ s. getD s k 0) e ∙ coefficient-tabulate n (cutProductAt p u v) k h
 
-  pub residues-product : n ≤ length z → Residues p n z
-  residues-product room = record { room = room; place = λ k h. rw (place-product k h) (mod-lt _ l) }
+  pub residues-product : Residues p n z
+  unfolding coefficient
+  residues-product k h = rw (place-product k h) (mod-lt _ l)
 
   pub added-joined : (t : ℕ) (w : List ℕ) → tabulate n (addedAt p t w z) ≡ joined p n (take n (drop t w)) u v
   unfolding addedAt joined joinedAt coefficient

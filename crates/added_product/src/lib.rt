@@ -5,8 +5,9 @@ ghost use Prim.Native.Nat.{_+_, _*_, _<_, _≤_};
 ghost use lib.ListN.{length, take, drop};
 ghost use lib.Seq.{sets};
 ghost use Rattle.definition.specs.Lists.{tabulate};
+ghost use Rattle.karatsuba.specs.Halves.{Residues};
 ghost use Rattle.schoolbook.specs.Remainders.{residueList};
-ghost use Rattle.added_product.specs.Added.{Added, Parts, Residues, addedAt};
+ghost use Rattle.added_product.specs.Added.{Added, Parts, addedAt};
 
 // The first n places of z become those of x modulo p.
 fn load(p: u32, n: usize, x: &[u32], z: &mut [u32])
@@ -22,7 +23,7 @@ fn load(p: u32, n: usize, x: &[u32], z: &mut [u32])
 
 // Adds the first n places of z, which are residues, to the n places of w from t on.
 fn add_places(p: u32, n: usize, z: &[u32], w: &mut [u32], t: usize)
-    requires { ⌜ (0 < p) × Residues p n (now z) × (t + n ≤ length (now w)) ⌝ }
+    requires { ⌜ (0 < p) × (n ≤ length (now z)) × Residues p n (now z) × (t + n ≤ length (now w)) ⌝ }
     ensures { λ r. ⌜ now (w .exit) ≡ sets (now (w .entry)) t (tabulate n (addedAt p t (now (w .entry)) (now (z .entry)))) ⌝ }
 {
     let mut k = 0;
@@ -43,4 +44,76 @@ fn add_by_rows(p: u32, n: usize, w: &mut [u32], a: usize, b: usize, t: usize)
     let end_b = b + n;
     schoolbook::cut_product(p, n, &w[a..end_a], &w[b..end_b], &mut z);
     add_places(p, n, &z, w, t);
+}
+
+// For more places: the product by halves, in the three lists.
+fn add_by_halves(
+    p: u32,
+    n: usize,
+    w: &mut [u32],
+    a: usize,
+    b: usize,
+    t: usize,
+    x: &mut [u32],
+    y: &mut [u32],
+    z: &mut [u32],
+)
+    requires { ⌜ Parts p n a b t (now w) × (17 * n ≤ 8 * length (now x)) × (17 * n ≤ 8 * length (now y)) × (4 * n ≤ length (now z)) ⌝ }
+    ensures { λ r. ⌜ Added p n a b t (now (w .entry)) (now (w .exit)) ⌝ }
+{
+    let end_a = a + n;
+    let end_b = b + n;
+    load(p, n, &w[a..end_a], x);
+    load(p, n, &w[b..end_b], y);
+    karatsuba::cut_product(p, n, x, y, z);
+    add_places(p, n, z, w, t);
+}
+
+// The same for at most 256 places. Lists are cleared when they are made, so that few places take short lists.
+fn add_up_to_256(p: u32, n: usize, w: &mut [u32], a: usize, b: usize, t: usize)
+    requires { ⌜ Parts p n a b t (now w) × (n ≤ 256) ⌝ }
+    ensures { λ r. ⌜ Added p n a b t (now (w .entry)) (now (w .exit)) ⌝ }
+{
+    let mut x: [u32; 544] = [0; 544];
+    let mut y: [u32; 544] = [0; 544];
+    let mut z: [u32; 1024] = [0; 1024];
+    add_by_halves(p, n, w, a, b, t, &mut x, &mut y, &mut z);
+}
+
+// The same for at most 1024 places.
+fn add_up_to_1024(p: u32, n: usize, w: &mut [u32], a: usize, b: usize, t: usize)
+    requires { ⌜ Parts p n a b t (now w) × (n ≤ 1024) ⌝ }
+    ensures { λ r. ⌜ Added p n a b t (now (w .entry)) (now (w .exit)) ⌝ }
+{
+    let mut x: [u32; 2176] = [0; 2176];
+    let mut y: [u32; 2176] = [0; 2176];
+    let mut z: [u32; 4096] = [0; 4096];
+    add_by_halves(p, n, w, a, b, t, &mut x, &mut y, &mut z);
+}
+
+// The same for at most 4096 places.
+fn add_up_to_4096(p: u32, n: usize, w: &mut [u32], a: usize, b: usize, t: usize)
+    requires { ⌜ Parts p n a b t (now w) ⌝ }
+    ensures { λ r. ⌜ Added p n a b t (now (w .entry)) (now (w .exit)) ⌝ }
+{
+    let mut x: [u32; 8704] = [0; 8704];
+    let mut y: [u32; 8704] = [0; 8704];
+    let mut z: [u32; 16384] = [0; 16384];
+    add_by_halves(p, n, w, a, b, t, &mut x, &mut y, &mut z);
+}
+
+// The n places from t on become they + A B modulo p, cut to n places, where A and B are the n places from a and from b on.
+pub fn add_product(p: u32, n: usize, w: &mut [u32], a: usize, b: usize, t: usize)
+    requires { ⌜ Parts p n a b t (now w) ⌝ }
+    ensures { λ r. ⌜ Added p n a b t (now (w .entry)) (now (w .exit)) ⌝ }
+{
+    if n <= 128 {
+        add_by_rows(p, n, w, a, b, t);
+    } else if n <= 256 {
+        add_up_to_256(p, n, w, a, b, t);
+    } else if n <= 1024 {
+        add_up_to_1024(p, n, w, a, b, t);
+    } else {
+        add_up_to_4096(p, n, w, a, b, t);
+    }
 }

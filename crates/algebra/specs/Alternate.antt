@@ -6,6 +6,8 @@
 --   even-fixed            s is its own even part if s(x²) is s
 --   0<2                   the premise of the laws of `spread R 2`
 --   split                 a is E(x²) + x O(x²), with E and O its even and its odd part
+--   even-split odd-split  and E and O are the even and the odd part of that
+--   spread-indeterminate  x² is x x
 --   alternation R N       the homomorphism of series that puts -x for x
 --   alternate R N a       a(-x)
 --   alternate-at          coefficient i of a(-x) is a_i if i is even, else -a_i
@@ -18,7 +20,8 @@ use native.Mathlib.Nat.{mul-mod-right, mul-div-cancel-left}
 use native.Mathlib.Omega.{arith}
 use Rattle.algebra.specs.Homomorphism.{Homomorphism}
 use Rattle.algebra.specs.Negation.{Negation, neg-⊗, neg-𝟘, neg-neg}
-use Rattle.algebra.specs.Semiring.{Semiring, 𝟘-⊕, ⊕-𝟘}
+use Rattle.algebra.specs.Power.{power-suc, power-1}
+use Rattle.algebra.specs.Semiring.{Semiring, 𝟘-⊕, 𝟘-⊗, ⊕-𝟘}
 use Rattle.algebra.specs.Series.{
   Series,
   series,
@@ -34,10 +37,11 @@ use Rattle.algebra.specs.Series.{
   indeterminate-0,
   indeterminate-⊠,
   ⊞-at,
+  ⊠-0,
   neg-at,
 }
-use Rattle.algebra.specs.Spread.{spread, spread-at}
-use Rattle.algebra.specs.Substitution.{substitution, substitute-horner}
+use Rattle.algebra.specs.Spread.{spread, spread-at, spread-substitute}
+use Rattle.algebra.specs.Substitution.{substitution, substitute-horner, substitute-indeterminate}
 
 abbrev pub even : {A : Type 0} → Series A → Series A
 even a i = a (2 * i)
@@ -82,10 +86,22 @@ module _ {A : Type 0} (R : Semiring A) where
   shift-spread-even s (suc i) =
       let e : 2 * suc i ≡ suc (suc (2 * i)) = omega arith in rw (e, shift-suc R, spread-odd)
 
+  module _ (e o : Series A) where
+    pub even-split : even (spread R 2 e ⊞ indeterminate R ⊠ spread R 2 o) ≡ e
+    even-split = rw (indeterminate-⊠ R) (fun-ext λ i. rw (⊞-at R, spread-even, shift-spread-even, ⊕-𝟘 R))
+
+    pub odd-split : odd (spread R 2 e ⊞ indeterminate R ⊠ spread R 2 o) ≡ o
+    odd-split = rw (indeterminate-⊠ R) (fun-ext λ i. rw (⊞-at R, spread-odd, shift-suc R, spread-even, 𝟘-⊕ R))
+
   pub split : (a : Series A) → a ≡ spread R 2 (even a) ⊞ indeterminate R ⊠ spread R 2 (odd a)
-  split a = rw (indeterminate-⊠ R) (equal-by-parity
-      (λ i. rw (⊞-at R, spread-even, shift-spread-even, ⊕-𝟘 R))
-      (λ i. rw (⊞-at R, spread-odd, shift-suc R, spread-even, 𝟘-⊕ R)))
+  split a = equal-by-parity
+      (λ i. ap (λ s. s i) (sym (even-split (even a) (odd a))))
+      (λ i. ap (λ s. s i) (sym (odd-split (even a) (odd a))))
+
+  pub spread-indeterminate : spread R 2 (indeterminate R) ≡ indeterminate R ⊠ indeterminate R
+  spread-indeterminate =
+      rw (spread-substitute R 2 0<2 (indeterminate R), power-suc (series R), power-1 (series R))
+      (substitute-indeterminate R _ (rw (⊠-0 R, indeterminate-0 R, 𝟘-⊗ R)))
 
 module _ {A : Type 0} (R : Semiring A) (N : Negation R) where
   open Semiring R using (𝟘)

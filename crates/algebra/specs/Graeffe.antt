@@ -10,7 +10,7 @@
 --   opposite-degree graeffe-degree   the degree in y of Q(-x, y) is that of Q, the degree of V twice that
 use Prim.Native.Nat.{ℕ, _+_}
 use mathlib.Core.Path.{_≡_, refl, ap₂, fun-ext, _∙_}
-use Rattle.algebra.specs.Alternate.{alternation, alternate, even, odd, split, alternate-split, even-spread, even-fixed, 0<2}
+use Rattle.algebra.specs.Alternate.{alternation, alternate, even, odd, split, alternate-split, even-spread, even-fixed, spread-indeterminate, 0<2}
 use Rattle.algebra.specs.Cut.{Degree, ⊠-degree}
 use Rattle.algebra.specs.Homomorphism.{
   Homomorphism,
@@ -23,11 +23,9 @@ use Rattle.algebra.specs.Homomorphism.{
 }
 use Rattle.algebra.specs.Negation.{Negation, signed}
 use Rattle.algebra.specs.Plane.{Plane}
-use Rattle.algebra.specs.Power.{power-suc, power-1}
-use Rattle.algebra.specs.Semiring.{Semiring, ring, 𝟘-⊗, 𝟙-⊗}
-use Rattle.algebra.specs.Series.{series, series-negation, indeterminate, indeterminate-0, ⊞-at, ⊠-0, constant, constant-⊠-at, neg-at}
-use Rattle.algebra.specs.Spread.{spread, spreading, spread-substitute}
-use Rattle.algebra.specs.Substitution.{substitute-indeterminate}
+use Rattle.algebra.specs.Semiring.{Semiring, ring, 𝟙-⊗}
+use Rattle.algebra.specs.Series.{series, series-negation, indeterminate, ⊞-at, ⊠-0, constant, constant-⊠-at, neg-at}
+use Rattle.algebra.specs.Spread.{spread, spreading}
 
 abbrev pub evenPart : {A : Type 0} → Plane A → Plane A
 evenPart a j = even (a j)
@@ -60,14 +58,9 @@ module _ {A : Type 0} (R : Semiring A) where
   unfolding x
   x-⊠-at a j = rw (constant-⊠-at (series R), squared-at)
 
-  spread-indeterminate : spread R 2 (indeterminate R) ≡ indeterminate R ⊗ indeterminate R
-  spread-indeterminate =
-      rw (spread-substitute R 2 0<2 (indeterminate R), power-suc (series R), power-1 (series R))
-      (substitute-indeterminate R _ (rw (⊠-0 R, indeterminate-0 R, 𝟘-⊗ R)))
-
   squared-x : squared x ≡ x ⊠ x
   unfolding x
-  squared-x = rw (coefficients-constant (spreading R 2 0<2), spread-indeterminate, constant-⊗ (series R))
+  squared-x = rw (coefficients-constant (spreading R 2 0<2), spread-indeterminate R, constant-⊗ (series R))
 
 module _ {A B : Type 0} {R : Semiring A} {S : Semiring B} (N : Negation R) (M : Negation S) (φ : Homomorphism R S) where
   open Semiring R using (_⊕_, _⊗_)

@@ -8,6 +8,7 @@
 --   Series Agree Cut                             series are again a semiring; agreement below n; windows, degrees, cuts
 --   Substitution                                 substitution of a series without constant term; associativity
 --   Spread Quotient Alternate Derivative         a(x^p); P / Q; a(-x), even and odd part; derivatives
+--   Karatsuba                                    the even and the odd part of a product, from three products
 -- Numbers
 --   Remainder Prime Binomial                     remainders; Euclid's lemma and trial division; binomial coefficients
 --   Residue Frobenius Fermat                     residues modulo p; the p-th power; Fermat and inverses
@@ -36,6 +37,7 @@ pub mod Substitution
 pub mod Spread
 pub mod Quotient
 pub mod Alternate
+pub mod Karatsuba
 pub mod Derivative
 pub mod Remainder
 pub mod Prime

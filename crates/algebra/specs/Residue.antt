@@ -8,6 +8,7 @@
 --   residue-own           a residue is the residue of its value
 --   residues l            the semiring of residues
 --   residues-negation l   its negation
+--   ⊕-value neg-value     values of sums and of negatives
 --   residue-0 residue-1 residue-+ residue-* residue-power residue-negative   residues of 0, 1, sums, products, powers, negatives
 --   reduction l           the homomorphism from the natural numbers to the residues
 --   natural-residue       a natural number in the semiring of residues is its residue
@@ -79,12 +80,20 @@ module _ {p : ℕ} (l : 0 < p) where
     𝟘-⊗ = λ a. Fin·val-path (rw (mod-mul-mod, zero-mul));
   }
 
+  pub ⊕-value : (a b : Residue p) → residues ._⊕_ a b .0 ≡ (a .0 + b .0) % p
+  unfolding residues residue
+  ⊕-value a b = refl
+
   pub residues-negation : Negation residues
   unfolding residues residue
   residues-negation = record {
     neg = λ a. residue (p - a .0);
     ⊕-neg = λ a. Fin·val-path (rw (add-mod-mod, add-sub-of-le (le-of-lt (a .1)), mod-self, zero-mod));
   }
+
+  pub neg-value : (a : Residue p) → residues-negation .neg a .0 ≡ negative p (a .0)
+  unfolding residues-negation residue negative
+  neg-value a = rw (mod-eq-of-lt (a .1))
 
   open Semiring residues using (𝟘, 𝟙, _⊕_, _⊗_)
 

@@ -68,7 +68,7 @@ add-places-requires : tie.Need-add-places-requires
 add-places-requires c κs =
     let made = c .before .before .before in
     let start = made .before .before .before .before .before .before in
-    (start .pre .0 .modulus, residues-product (start .pre .0 .modulus) _ _ _ _ (front made) (room made), start .pre .0 .target)
+    (start .pre .0 .modulus, room made, residues-product (start .pre .0 .modulus) _ _ _ _ (front made), start .pre .0 .target)
 
 same-length : tie.Need-same-length
 same-length c = search needs

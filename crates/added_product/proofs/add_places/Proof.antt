@@ -38,10 +38,11 @@ shared-slice-read-sum : tie.Need-shared-slice-read-sum Inv-loop μ-loop
 shared-slice-read-sum c = search needs
 
 sum-requires : tie.Need-sum-requires Inv-loop μ-loop
+unfolding coefficient
 sum-requires c κs =
     let turn = c .before .before .before in
     let start = turn .before .before .before .before in
-    (rw (c .before .reduced .ensures) (mod-lt _ (start .pre .0)), start .pre .1 .place _ (turn .loop-test .taken))
+    (rw (c .before .reduced .ensures) (mod-lt _ (start .pre .0)), start .pre .2 _ (turn .loop-test .taken))
 
 add-w : tie.Need-add-w Inv-loop μ-loop
 add-w c = search needs

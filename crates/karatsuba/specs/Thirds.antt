@@ -1,0 +1,72 @@
+-- A product from its three products of half the length.
+--
+--   thirds-woven       the three products lie where `weave` reads them
+--   thirds-product     and what it leaves is the product
+-- Assumes nothing.
+use Prim.Native.Nat.{ℕ, zero, suc, _+_, _-_, _*_, _/_, _<_, _≤_}
+use native.Mathlib.Decide.{decLt}
+use native.Mathlib.Nat.{mod-lt, suc-add, zero-add}
+use native.Mathlib.Omega.{arith}
+use mathlib.Core.List.{List, [], _∷_}
+use mathlib.Core.Path.{_≡_, ap, _∙_}
+use lib.ListN.{length, take, drop}
+use lib.Seq.{getD-drop, getD-take, sets, take-nil, take-take}
+use Rattle.algebra.specs.Lists.{coefficient-tabulate, length-tabulate}
+use Rattle.buffer.specs.Written.{front-sets}
+use Rattle.definition.specs.Lists.{coefficient, tabulate}
+use Rattle.definition.specs.Substitution.{cutProduct, cutProductAt}
+use Rattle.karatsuba.specs.Halves.{part}
+use Rattle.karatsuba.specs.Room.{Room, Third}
+use Rattle.karatsuba.specs.Rule.{rule}
+use Rattle.karatsuba.specs.Weave.{Woven, woven}
+
+drop-take : (i n : ℕ) (l : List ℕ) → drop i (take (i + n) l) ≡ take n (drop i l)
+drop-take zero n l = rw zero-add
+drop-take (suc i) n [] = rw (suc-add, take-nil n)
+drop-take (suc i) n (x ∷ l) = rw suc-add (drop-take i n l)
+
+segment-kept : (a c b : ℕ) (z z' : List ℕ) → take b z' ≡ take b z → a + c ≤ b → take c (drop a z') ≡ take c (drop a z)
+segment-kept a c b z z' e h =
+    rw (← drop-take a c z', ← drop-take a c z, ← take-take (a + c) b z' h, ← take-take (a + c) b z h, e)
+
+product-residue : {p : ℕ} (a c : ℕ) (z u v : List ℕ) → 0 < p → take c (drop a z) ≡ cutProduct p c u v → (k : ℕ) → a ≤ k → k < a + c → coefficient z k < p
+unfolding coefficient cutProduct cutProductAt
+product-residue {p} a c z u v positive e k h g =
+    let i : k ≡ a + (k - a) = omega arith in
+    rw (i, ← getD-drop, ← getD-take c (drop a z) (k - a) 0 (omega arith), e, coefficient-tabulate c (cutProductAt p u v) (k - a) (omega arith))
+    (mod-lt _ positive)
+
+module _ {p n : ℕ} {x y z x₁ y₁ z₁ x₂ y₂ z₂ x₃ y₃ z₃ : List ℕ} (room : Room p n x y z) (size : length z₃ ≡ length z)
+    (evens : Third p n 0 (n - n / 2) n x x₁ y y₁ z z₁)
+    (odds : Third p n 1 (n / 2) (n + (n - n / 2)) x₁ x₂ y₁ y₂ z₁ z₂)
+    (sums : Third p n 2 (n / 2) (2 * n) x₂ x₃ y₂ y₃ z₂ z₃) where
+  even-product : take (n - n / 2) (drop n z₃) ≡ cutProduct p (n - n / 2) (part p n 0 (n - n / 2) x) (part p n 0 (n - n / 2) y)
+  even-product =
+      segment-kept n (n - n / 2) (2 * n) z₂ z₃ (sums .before) (omega arith)
+      ∙ segment-kept n (n - n / 2) (n + (n - n / 2)) z₁ z₂ (odds .before) (omega arith)
+      ∙ evens .product
+
+  odd-product : take (n / 2) (drop (n + (n - n / 2)) z₃) ≡ cutProduct p (n / 2) (part p n 1 (n / 2) x) (part p n 1 (n / 2) y)
+  odd-product =
+      segment-kept (n + (n - n / 2)) (n / 2) (2 * n) z₂ z₃ (sums .before) (omega arith)
+      ∙ odds .product ∙ rw (evens .left, evens .right)
+
+  sum-product : take (n / 2) (drop (2 * n) z₃) ≡ cutProduct p (n / 2) (part p n 2 (n / 2) x) (part p n 2 (n / 2) y)
+  sum-product = sums .product ∙ rw (odds .left, evens .left, odds .right, evens .right)
+
+  pub thirds-woven : Woven p n z₃
+  thirds-woven = record {
+    modulus = room .modulus;
+    size = omega (arith, room .target);
+    small = λ k h g. at k h g (decLt k (n + (n - n / 2))) (decLt k (2 * n));
+  }
+    where
+      at : (k : ℕ) → n ≤ k → k < 2 * n + n / 2 → Dec (k < n + (n - n / 2)) → Dec (k < 2 * n) → coefficient z₃ k < p
+      at k h g (yes e) d = product-residue n (n - n / 2) z₃ _ _ (room .modulus) even-product k h e
+      at k h g (no e) (yes d) = product-residue (n + (n - n / 2)) (n / 2) z₃ _ _ (room .modulus) odd-product k (omega arith) (omega arith)
+      at k h g (no e) (no d) = product-residue (2 * n) (n / 2) z₃ _ _ (room .modulus) sum-product k (omega arith) g
+
+  pub thirds-product : {after : List ℕ} → after ≡ sets z₃ 0 (tabulate n (woven p n z₃)) → take n after ≡ cutProduct p n x y
+  thirds-product woven-after =
+      front-sets n z₃ (tabulate n (woven p n z₃)) woven-after (length-tabulate n _) (omega (arith, room .target))
+      ∙ rule (room .modulus) n x y z₃ even-product odd-product sum-product

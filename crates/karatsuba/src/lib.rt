@@ -1,0 +1,119 @@
+// Cut products of long lists modulo p by Karatsuba's rule. The even and the odd places of both factors and the sums of neighbours give three
+// products of half the length, and these are woven into the product.
+ghost use mathlib.Core.Path.{_≡_};
+ghost use Prim.Native.Nat.{_+_, _-_, _*_, _/_, _%_, _<_, _≤_};
+ghost use lib.ListN.{length, take, drop};
+ghost use lib.Seq.{sets};
+ghost use Rattle.definition.specs.KinoshitaLi.{negative};
+ghost use Rattle.definition.specs.Lists.{tabulate};
+ghost use Rattle.definition.specs.Substitution.{cutProduct};
+ghost use Rattle.karatsuba.specs.Halves.{Residues, neighbourSum, part, second};
+ghost use Rattle.karatsuba.specs.Room.{Room, Third, ThirdRoom};
+ghost use Rattle.karatsuba.specs.Weave.{Woven, woven};
+
+// m - e - o modulo p.
+fn cross(p: u32, m: u32, e: u32, o: u32) -> u32
+    requires { ⌜ (m < p) × (e < p) × (o < p) ⌝ }
+    ensures { λ r. ⌜ r ≡ ((m + negative p e) % p + negative p o) % p ⌝ }
+{
+    residue::difference(p, residue::difference(p, m, e), o)
+}
+
+// The `count` places from n on become the places `from`, `from` + 2 and so on of the first n.
+fn every_second(n: usize, from: usize, count: usize, x: &mut [u32])
+    requires { ⌜ (from + 2 * count ≤ n + 1) × (n + count ≤ length (now x)) ⌝ }
+    ensures { λ _. ⌜ now (x .exit) ≡ sets (now (x .entry)) n (tabulate count (second from (take n (now (x .entry))))) ⌝ }
+{
+    let mut i = 0;
+    while i < count {
+        x[n + i] = x[2 * i + from];
+        i += 1;
+    }
+}
+
+// The `count` places from n on become the sums of neighbours among the first n.
+fn pair_sums(p: u32, n: usize, count: usize, x: &mut [u32])
+    requires { ⌜ (2 * count ≤ n) × (n + count ≤ length (now x)) × Residues p n (now x) ⌝ }
+    ensures { λ _. ⌜ now (x .exit) ≡ sets (now (x .entry)) n (tabulate count (neighbourSum p (take n (now (x .entry))))) ⌝ }
+{
+    let mut i = 0;
+    while i < count {
+        x[n + i] = residue::sum(p, x[2 * i], x[2 * i + 1]);
+        i += 1;
+    }
+}
+
+// The first n places become the product: those of its parts stand from n on, the even one, the odd one and that of the sums.
+fn weave(p: u32, n: usize, z: &mut [u32])
+    requires { ⌜ Woven p n (now z) ⌝ }
+    ensures { λ _. ⌜ now (z .exit) ≡ sets (now (z .entry)) 0 (tabulate n (woven p n (now (z .entry)))) ⌝ }
+{
+    let half = n / 2;
+    let odd = n + (n - half);
+    let sums = 2 * n;
+    let mut before = 0;
+    let mut i = 0;
+    while i < half {
+        let e = z[n + i];
+        let o = z[odd + i];
+        let m = z[sums + i];
+        let even = residue::sum(p, e, before);
+        let cross = cross(p, m, e, o);
+        z[2 * i] = even;
+        z[2 * i + 1] = cross;
+        before = o;
+        i += 1;
+    }
+    if 2 * half < n {
+        z[2 * half] = residue::sum(p, z[n + half], before);
+    }
+}
+
+// The `count` places from n on become a part of the first n: the even places (0), the odd places (1), or the sums of neighbours (2).
+fn part(p: u32, n: usize, which: usize, count: usize, x: &mut [u32])
+    requires { ⌜ (2 * count ≤ n + (1 - which)) × (n + count ≤ length (now x)) × Residues p n (now x) ⌝ }
+    ensures { λ _. ⌜ now (x .exit) ≡ sets (now (x .entry)) n (part p n which count (now (x .entry))) ⌝ }
+{
+    if which < 2 {
+        every_second(n, which, count, x);
+    } else {
+        pair_sums(p, n, count, x);
+    }
+}
+
+// The `count` places of z from t on become the product of such parts of x and of y.
+fn third(
+    p: u32,
+    n: usize,
+    which: usize,
+    count: usize,
+    x: &mut [u32],
+    y: &mut [u32],
+    z: &mut [u32],
+    t: usize,
+)
+    requires { ⌜ ThirdRoom p n which count t (now x) (now y) (now z) ⌝ }
+    ensures { λ _. ⌜ Third p n which count t (now (x .entry)) (now (x .exit)) (now (y .entry)) (now (y .exit)) (now (z .entry)) (now (z .exit)) ⌝ }
+{
+    part(p, n, which, count, x);
+    part(p, n, which, count, y);
+    cut_product(p, count, &mut x[n..], &mut y[n..], &mut z[t..]);
+}
+
+// The first n places of z become the product of the first n places of x and of y modulo p, cut to n places. What lies behind them in the
+// three lists is room.
+pub fn cut_product(p: u32, n: usize, x: &mut [u32], y: &mut [u32], z: &mut [u32])
+    requires { ⌜ Room p n (now x) (now y) (now z) ⌝ }
+    ensures { λ _. ⌜ take n (now (z .exit)) ≡ cutProduct p n (now (x .entry)) (now (y .entry)) ⌝ }
+{
+    if n <= 128 {
+        schoolbook::cut_product(p, n, x, y, z);
+        return;
+    }
+    let half = n / 2;
+    let rounded = n - half;
+    third(p, n, 0, rounded, x, y, z, n);
+    third(p, n, 1, half, x, y, z, n + rounded);
+    third(p, n, 2, half, x, y, z, 2 * n);
+    weave(p, n, z);
+}
