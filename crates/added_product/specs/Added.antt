@@ -6,6 +6,8 @@
 --   residues-product       the first n places are residues where they are a product
 --   added-joined           the sum with a product
 --   length-cutProduct      a product has n places
+--   loaded-residues        residues read into the front of a list
+--   loaded-product         and the product of two such lists
 -- Assumes nothing.
 use Prim.Native.Nat.{ℕ, _+_, _%_, _<_, _≤_}
 use native.Mathlib.Nat.{add-mod-mod, mod-lt}
@@ -15,10 +17,13 @@ use mathlib.Core.Path.{_≡_, sym, ap, _∙_}
 use lib.ListN.{length, getD, take, drop}
 use lib.Seq.{sets, getD-drop, getD-take}
 use Rattle.algebra.specs.Lists.{coefficient-tabulate, length-tabulate, tabulate-cong}
+use Rattle.buffer.specs.Written.{front-sets}
 use Rattle.definition.specs.Lists.{coefficient, tabulate}
 use Rattle.definition.specs.Ranged.{joined, joinedAt}
 use Rattle.definition.specs.Substitution.{cutProduct, cutProductAt, product}
 use Rattle.karatsuba.specs.Halves.{Residues}
+use Rattle.karatsuba.specs.Rule.{cutProduct-taken}
+use Rattle.schoolbook.specs.Remainders.{length-residueList, product-residues, residue-below, residueList}
 
 unfoldable pub addedAt : ℕ → ℕ → List ℕ → List ℕ → ℕ → ℕ
 addedAt p t w z k = (coefficient w (t + k) + coefficient z k) % p
@@ -51,3 +56,18 @@ module _ {p : ℕ} (l : 0 < p) (n : ℕ) (z u v : List ℕ) (e : take n z ≡ cu
 pub length-cutProduct : (p n : ℕ) (u v : List ℕ) → length (cutProduct p n u v) ≡ n
 unfolding cutProduct
 length-cutProduct p n u v = length-tabulate n (cutProductAt p u v)
+
+-- factors that were read into the front of other lists
+loaded-front : (p n : ℕ) (x u : List ℕ) {x' : List ℕ} → x' ≡ sets x 0 (residueList p n u) → n ≤ length x → take n x' ≡ residueList p n u
+loaded-front p n x u e room = front-sets n x (residueList p n u) e (length-residueList p n u) room
+
+pub loaded-residues : {p : ℕ} → 0 < p → (n : ℕ) (x u : List ℕ) {x' : List ℕ} → x' ≡ sets x 0 (residueList p n u) → n ≤ length x → Residues p n x'
+unfolding coefficient
+loaded-residues {p} l n x u {x'} e room k h = rw (← getD-take n x' k 0 h, loaded-front p n x u e room) (residue-below l n u k h)
+
+pub loaded-product : {p : ℕ} → 0 < p → (n : ℕ) (x y u v : List ℕ) {x' y' : List ℕ}
+    → x' ≡ sets x 0 (residueList p n u) → n ≤ length x → y' ≡ sets y 0 (residueList p n v) → n ≤ length y
+    → cutProduct p n x' y' ≡ cutProduct p n u v
+loaded-product {p} l n x y u v {x'} {y'} e room f place =
+    sym (cutProduct-taken l n x' y')
+    ∙ rw (loaded-front p n x u e room, loaded-front p n y v f place) (product-residues l n u v)

@@ -114,7 +114,7 @@ module _ {c : ℕ} {zs : List ℕ} (z : Zeros c zs) (at : ℕ) (vs : List ℕ) (
           rw (e, padded-inside (j - at) (omega arith)) (h (j - at) (omega arith))
       go (no u) (no v) = rw (getD-sets-other zs at vs j 0 (λ i s e. omega arith), z .blank j) l
 
-residue-below : {p : ℕ} → 0 < p → (n : ℕ) (x : List ℕ) (j : ℕ) → j < n → getD (residueList p n x) j 0 < p
+pub residue-below : {p : ℕ} → 0 < p → (n : ℕ) (x : List ℕ) (j : ℕ) → j < n → getD (residueList p n x) j 0 < p
 unfolding residueList residueAt coefficient
 residue-below {p} l n x j b = rw (coefficient-tabulate n (residueAt p x) j b) (mod-lt _ l)
 
