@@ -2,8 +2,9 @@
 // makes: a route's weight can then be nothing but a sum of what products gave back.
 ghost use mathlib.Core.Path.{_≡_};
 ghost use Prim.Native.Nat.{_+_, _*_, _<_, _^_};
+ghost use lib.Seq.{sets};
 ghost use Rattle.product.specs.Double.{MultipliedRow, MultipliedRows, RowOperands};
-ghost use Rattle.product.specs.Single.{Multiplied, MultipliedAdd, Operands};
+ghost use Rattle.product.specs.Single.{Multiplied, MultipliedAdd, Operands, addedProduct};
 
 // A polynomial in x and y in a buffer: `count` rows, one after the other from place `at` on, row j for y^j. Later rows are zero.
 pub struct Rows {
@@ -42,10 +43,11 @@ impl Weight {
     }
 }
 
-// The n places from t on become they + A B modulo p, cut to n places, where A and B are the n places from a and from b on.
-pub fn multiply_add(p: u32, n: usize, w: &mut [u32], a: usize, b: usize, t: usize) -> Weight
+// The n places from t on become they + A B modulo p, cut to n places, where A and B are the n places from a and from b on. Coefficient by
+// coefficient: the quickest way for few places, and for any number of them.
+fn add_coefficients(p: u32, n: usize, w: &mut [u32], a: usize, b: usize, t: usize)
     requires { ⌜ Operands p n a b t (now w) ⌝ }
-    ensures { λ r. ⌜ MultipliedAdd p n a b t (now (w .entry)) (now (w .exit)) (r .places) ⌝ }
+    ensures { λ r. ⌜ now (w .exit) ≡ sets (now (w .entry)) t (addedProduct p n a b t (now (w .entry))) ⌝ }
 {
     let end_a = a + n;
     let end_b = b + n;
@@ -54,6 +56,20 @@ pub fn multiply_add(p: u32, n: usize, w: &mut [u32], a: usize, b: usize, t: usiz
         let c = w[t + k];
         w[t + k] = convolution::product_coefficient(p, c, &w[a..end_a], &w[b..end_b], k);
         k += 1;
+    }
+}
+
+// The n places from t on become they + A B modulo p, cut to n places, where A and B are the n places from a and from b on.
+pub fn multiply_add(p: u32, n: usize, w: &mut [u32], a: usize, b: usize, t: usize) -> Weight
+    requires { ⌜ Operands p n a b t (now w) ⌝ }
+    ensures { λ r. ⌜ MultipliedAdd p n a b t (now (w .entry)) (now (w .exit)) (r .places) ⌝ }
+{
+    if n <= 12 {
+        add_coefficients(p, n, w, a, b, t);
+    } else if n <= 4096 {
+        added_product::add_product(p, n, w, a, b, t);
+    } else {
+        add_coefficients(p, n, w, a, b, t);
     }
     Weight { places: n as u64 }
 }

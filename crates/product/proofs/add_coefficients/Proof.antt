@@ -1,4 +1,4 @@
--- `product::multiply_add` meets its contract: after k turns the first k places are written, and none that is still to be read.
+-- `product::add_coefficients` meets its contract: after k turns the first k places are written, and none that is still to be read.
 -- Assumes nothing.
 use borrow.Author.Needs.{needs}
 use native.Mathlib.Nat.{add-sub-cancel-left}
@@ -7,8 +7,8 @@ use Prim.Native.Nat.{_-_, _≤_}
 use mathlib.Core.Path.{_≡_, _∙_}
 use lib.ListN.{length}
 use Rattle.product.specs.Single.{addedFirst, added-all, added-next}
-use Rattle.product.proofs.multiply_add.Statement.{statement}
-use Rattle.product.proofs.multiply_add.Tie as tie
+use Rattle.product.proofs.add_coefficients.Statement.{statement}
+use Rattle.product.proofs.add_coefficients.Tie as tie
 
 abbrev Inv-loop : tie.InvT-loop
 Inv-loop p n w₀ a b t end-a end-b k₀ w k =
@@ -92,13 +92,10 @@ same-length c = search needs
 returns : tie.Need-returns Inv-loop μ-loop
 returns c =
     let all : c .before .loop .k ≡ c .before .before .before .args .n = omega arith in
-    record {
-      written = c .before .loop .inv .2 ∙ rw (all, added-all);
-      places = search needs;
-    }
+    c .before .loop .inv .2 ∙ rw (all, added-all)
 
-pub multiply-add-spec : {M : Type 1} → statement M
-multiply-add-spec =
+pub add-coefficients-spec : {M : Type 1} → statement M
+add-coefficients-spec =
     tie.close
     (tie.spec
     Inv-loop
