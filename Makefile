@@ -5,8 +5,8 @@
 # make bench  each route, an opening and reversion beside the straightforward code of the second implementation and beside FLINT, as ratios
 #             and as the picture target/bench.svg; no part of the gate
 # make bench-products  cut products and route 2 beside the straightforward program, its modulus known at run time or to the compiler, and beside
-#             FLINT, as ratios; no part of the gate. It takes minutes at order 4096: 'make bench-products LARGEST=1024' ends route 2 before
-# make stack  how much stack each call takes; no part of the gate. LARGEST as above
+#             FLINT, as ratios; no part of the gate. It takes about ten minutes, and four with LARGEST=1024, the largest order of route 2
+# make stack  how much stack each call takes, up to the order LARGEST; no part of the gate
 # make flint  installs FLINT for the benchmark, which does without it where it is missing
 # make clean  removes target/, where everything that is built stands
 #
