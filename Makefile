@@ -4,6 +4,9 @@
 # make install PREFIX=dir  the header, the library and a pkg-config file below dir, or below /usr/local; DESTDIR is put before it
 # make bench  each route, an opening and reversion beside the straightforward code of the second implementation and beside FLINT, as ratios
 #             and as the picture target/bench.svg; no part of the gate
+# make bench-products  cut products and route 2 beside the straightforward program, its modulus known at run time or to the compiler, and beside
+#             FLINT, as ratios; no part of the gate. It takes about ten minutes, and four with LARGEST=1024, the largest order of route 2
+# make stack  how much stack each call takes, up to the order LARGEST; no part of the gate
 # make flint  installs FLINT for the benchmark, which does without it where it is missing
 # make clean  removes target/, where everything that is built stands
 #
@@ -13,6 +16,8 @@ SECOND := target/tests/second
 DEFINITIONS := target/tests/definitions
 LINKED := target/tests/linked
 BENCH := target/tests/bench
+BENCH_PRODUCTS := target/tests/bench_products
+STACK := target/tests/stack
 EQUATIONS := rows steps files promises limits
 WRITTEN_TABLE := definition algebra field primes
 C_INTERFACE := target/tests/c_interface
@@ -38,8 +43,9 @@ MISSING = $(shell for tool in $(TOOLS); do command -v $$tool >/dev/null || echo 
 ADD_PACKAGES := apt-get update && DEBIAN_FRONTEND=noninteractive apt-get install -y --no-install-recommends
 SEED := 1
 CALLS := 24000
+LARGEST := 4096
 
-.PHONY: test run program install bench flint clean toolchain tools
+.PHONY: test run program install bench bench-products stack flint clean toolchain tools
 .PHONY: formatted trace proofs second definitions wrong-definitions wrong-weights library linked c-interface installed joiner job-tool
 
 test: tools
@@ -126,6 +132,17 @@ bench: tools library $(PLAIN)
 	gcc -O2 -c -o $(BENCH)-flint.o tests/bench/flint.c
 	$(RUSTC) $(LINK) -C link-args='$(BENCH)-flint.o $(FLINT)' -o $(BENCH) tests/bench/main.rs
 	$(BENCH) target/bench.svg
+
+bench-products: tools library $(PLAIN)
+	mkdir -p $(dir $(BENCH_PRODUCTS))
+	gcc -O2 -c -o $(BENCH)-flint.o tests/bench/flint.c
+	$(RUSTC) $(LINK) -C link-args='$(BENCH)-flint.o $(FLINT)' -o $(BENCH_PRODUCTS) tests/bench/products.rs
+	$(BENCH_PRODUCTS) $(LARGEST)
+
+stack: tools library
+	mkdir -p $(dir $(STACK))
+	$(CC99) -pthread -Wl,-z,now -o $(STACK) tests/bench/stack.c $(ARCHIVE)
+	$(STACK) $(LARGEST)
 
 # FLINT, another library, stands beside the rest in the benchmark where it is installed
 flint:

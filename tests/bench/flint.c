@@ -1,4 +1,4 @@
-/* Composition and reversion by FLINT, where its header is installed. Each returns whether it gave an answer. */
+/* Composition, reversion and cut products by FLINT, where its header is installed. Each returns whether it gave an answer. */
 
 #include <stddef.h>
 #include <stdint.h>
@@ -42,6 +42,25 @@ int flint_reverse(uint32_t p, size_t n, const uint32_t *g, size_t g_count, uint3
     return 1;
 }
 
+/* Horner's rule with cut products, for f that is not empty; the lists are put into FLINT's form once. */
+int flint_horner(uint32_t p, size_t n, const uint32_t *f, size_t f_count, const uint32_t *g, size_t g_count, uint32_t *out)
+{
+    nmod_poly_t value, next, inner;
+    begin(value, p, f + f_count - 1, 1);
+    begin(inner, p, g, g_count);
+    nmod_poly_init2(next, p, n);
+    for (size_t i = f_count - 1; i-- > 0;) {
+        nmod_poly_mullow(next, value, inner, n);
+        nmod_poly_set_coeff_ui(next, 0, nmod_add(nmod_poly_get_coeff_ui(next, 0), f[i], next->mod));
+        nmod_poly_swap(value, next);
+    }
+    copy(out, n, value);
+    nmod_poly_clear(value);
+    nmod_poly_clear(next);
+    nmod_poly_clear(inner);
+    return 1;
+}
+
 #else
 
 int flint_compose(uint32_t p, size_t n, const uint32_t *f, size_t f_count, const uint32_t *g, size_t g_count, uint32_t *out)
@@ -50,6 +69,11 @@ int flint_compose(uint32_t p, size_t n, const uint32_t *f, size_t f_count, const
 }
 
 int flint_reverse(uint32_t p, size_t n, const uint32_t *g, size_t g_count, uint32_t *out)
+{
+    return 0;
+}
+
+int flint_horner(uint32_t p, size_t n, const uint32_t *f, size_t f_count, const uint32_t *g, size_t g_count, uint32_t *out)
 {
     return 0;
 }

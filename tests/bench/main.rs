@@ -9,6 +9,7 @@
 #[allow(dead_code)]
 #[path = "../second/checks/mod.rs"]
 mod checks;
+#[allow(dead_code)]
 mod flint;
 #[path = "../linked/linked.rs"]
 mod linked;

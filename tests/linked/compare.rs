@@ -9,7 +9,16 @@ use crate::plain::calls::Answer;
 use crate::plain::chain::Chain;
 use crate::plain::random::Random;
 
-/// An accepted call with this output and this weight. Gives back the output.
+/// An accepted call with this output and this weight, on the buffers of the input. Gives back the
+/// output.
+fn answered(tally: &mut Tally, call: Call, input: &Input, value: &[u32], weight: u64) -> Vec<u32> {
+    let left = call.make::<Linked>(input);
+    let out = left.out.clone();
+    tally.equal((call, input), left, call.accepted(input, value.to_vec(), weight));
+    out
+}
+
+/// As `answered`, with a work buffer that is lent here.
 fn accepted(
     tally: &mut Tally,
     random: &mut Random,
@@ -19,10 +28,7 @@ fn accepted(
     weight: u64,
 ) -> Vec<u32> {
     input.lend(random, call);
-    let left = call.make::<Linked>(&input);
-    let out = left.out.clone();
-    tally.equal((call, &input), left, call.accepted(&input, value.to_vec(), weight));
-    out
+    answered(tally, call, &input, value, weight)
 }
 
 /// An accepted compose by this route.
@@ -38,6 +44,23 @@ pub fn composed(
     let (outer, inner, out) = (f.clone(), g.clone(), random.buffer(*n));
     let input = Input { route, p: *p, n: *n as u64, outer, inner, out, ..Input::default() };
     accepted(tally, random, Call::Compose, input, value, weight)
+}
+
+/// An accepted compose by this route; before it every place of the output and of work, which is one
+/// place longer than needed, holds this number.
+pub fn composed_over(
+    tally: &mut Tally,
+    place: u32,
+    route: u64,
+    case: &Case,
+    value: &[u32],
+    weight: u64,
+) {
+    let Case { p, n, f, g } = case;
+    let (outer, inner, out) = (f.clone(), g.clone(), vec![place; *n]);
+    let mut input = Input { route, p: *p, n: *n as u64, outer, inner, out, ..Input::default() };
+    input.work = vec![place; Call::Compose.needed(&input) as usize + 1];
+    answered(tally, Call::Compose, &input, value, weight);
 }
 
 /// An accepted reverse.

@@ -12,6 +12,7 @@ mod linked;
 #[allow(dead_code)]
 #[path = "../second/plain/mod.rs"]
 mod plain;
+mod products;
 mod program;
 mod published;
 mod refusals;
@@ -26,7 +27,7 @@ use compare::Both;
 use program::Built;
 use std::process::ExitCode;
 
-const GROUPS: [(&str, Check); 53] = [
+const GROUPS: [(&str, Check); 56] = [
     ("settled examples", settled::examples::<Both>),
     ("edges", settled::edges::<Both>),
     ("every small shape", shapes::every_small),
@@ -37,6 +38,9 @@ const GROUPS: [(&str, Check); 53] = [
     ("primes above 2^31", shapes::large_primes),
     ("primes above 2^31, largest coefficients", shapes::largest_coefficients),
     ("primes above 2^31, largest coefficients, large orders", shapes::largest_coefficients_closed),
+    ("products: every order up to 300", products::every_order),
+    ("products: around each size where the method changes", products::around_changes),
+    ("products: the largest orders", products::largest_orders),
     ("trap: f cut to n terms", traps::outer_cut),
     ("trap: order rounded down", traps::order_rounded_down),
     ("trap: d fixed", traps::window_fixed),
