@@ -1,21 +1,47 @@
--- `residue::difference` meets its contract: p is added where a is below b. Assumes nothing.
+-- `residue::difference` meets its contract. Assumes nothing.
 use borrow.Author.Needs.{needs}
+use native.Mathlib.Nat.{mod-lt}
 use native.Mathlib.Omega.{arith}
-use Rattle.residue.specs.Residue.{difference-above, difference-below}
+use Prim.Native.Nat.{_+_}
+use Rattle.definition.specs.KinoshitaLi.{negative}
 use Rattle.residue.proofs.difference.Statement.{statement}
 use Rattle.residue.proofs.difference.Tie as tie
 
-sub-result : tie.Need-sub-result
-sub-result c = search needs
+wide-requires : tie.Need-wide-requires
+wide-requires c κs = search needs
+
+under-requires : tie.Need-under-requires
+under-requires c κs = search needs
+
+wide-requires-2 : tie.Need-wide-requires-2
+wide-requires-2 c κs = search needs
 
 add-result : tie.Need-add-result
 add-result c = search needs
 
-returns : tie.Need-returns
-returns c = difference-below (c .before .pre .0) (c .before .pre .1) (omega arith)
+wide-requires-3 : tie.Need-wide-requires-3
+wide-requires-3 c κs = search needs
 
-returns-2 : tie.Need-returns-2
-returns-2 c = difference-above (c .before .pre .0) (c .before .pre .1) (omega arith)
+sub-result : tie.Need-sub-result
+sub-result c = search needs
+
+cast-result : tie.Need-cast-result
+cast-result c =
+    let start = c .before .before .before .before in
+    omega (arith, mod-lt (start .args .a + negative (start .args .p) (start .args .b)) {m = start .args .p} (omega arith))
+
+returns : tie.Need-returns
+returns c = search needs
 
 pub difference-spec : {M : Type 1} → statement M
-difference-spec = tie.close (tie.spec sub-result add-result returns returns-2)
+difference-spec =
+    tie.close
+    (tie.spec
+    wide-requires
+    under-requires
+    wide-requires-2
+    add-result
+    wide-requires-3
+    sub-result
+    cast-result
+    returns)

@@ -1,21 +1,46 @@
--- `residue::sum` meets its contract: a + b is taken as it is below p, and less p otherwise. Assumes nothing.
+-- `residue::sum` meets its contract. Assumes nothing.
 use borrow.Author.Needs.{needs}
+use native.Mathlib.Nat.{mod-lt}
 use native.Mathlib.Omega.{arith}
-use Rattle.residue.specs.Residue.{sum-above, sum-below}
+use Prim.Native.Nat.{_+_}
 use Rattle.residue.proofs.sum.Statement.{statement}
 use Rattle.residue.proofs.sum.Tie as tie
 
-sub-rest : tie.Need-sub-rest
-sub-rest c = search needs
+wide-requires : tie.Need-wide-requires
+wide-requires c κs = search needs
+
+wide-requires-2 : tie.Need-wide-requires-2
+wide-requires-2 c κs = search needs
 
 add-result : tie.Need-add-result
 add-result c = search needs
 
-returns : tie.Need-returns
-returns c = sum-below (c .before .pre .0) (c .before .pre .1) (omega arith)
+over-requires : tie.Need-over-requires
+over-requires c κs = search needs
 
-returns-2 : tie.Need-returns-2
-returns-2 c = sum-above (c .before .pre .0) (c .before .pre .1) (omega arith)
+wide-requires-3 : tie.Need-wide-requires-3
+wide-requires-3 c κs = search needs
+
+sub-result : tie.Need-sub-result
+sub-result c = search needs
+
+cast-result : tie.Need-cast-result
+cast-result c =
+    let start = c .before .before .before .before in
+    omega (arith, mod-lt (start .args .a + start .args .b) {m = start .args .p} (omega arith))
+
+returns : tie.Need-returns
+returns c = search needs
 
 pub sum-spec : {M : Type 1} → statement M
-sum-spec = tie.close (tie.spec sub-rest add-result returns returns-2)
+sum-spec =
+    tie.close
+    (tie.spec
+    wide-requires
+    wide-requires-2
+    add-result
+    over-requires
+    wide-requires-3
+    sub-result
+    cast-result
+    returns)
