@@ -1,5 +1,5 @@
-// Residues modulo p by comparisons, without a division where the numbers are residues already. What is chosen by a comparison is 0 or p, which
-// costs no jump.
+// Residues modulo p, without a division by p where the numbers are residues already, and without a jump, which would be mispredicted half of the
+// time: what is to be added or taken off is p times the 32nd bit of a sum.
 ghost use mathlib.Core.Path.{_≡_};
 ghost use Prim.Native.Nat.{_+_, _%_, _<_};
 ghost use Rattle.definition.specs.KinoshitaLi.{negative};
@@ -20,19 +20,19 @@ fn wide(x: u32) -> u64
 }
 
 // p if a + b reaches it, else 0.
-fn over(p: u32, a: u32, b: u32) -> u32
+fn over(p: u32, a: u32, b: u32) -> u64
     requires { ⌜ (a < p) × (b < p) ⌝ }
     ensures { λ r. ⌜ (a + b) % p + r ≡ a + b ⌝ }
 {
-    if a < p - b { 0 } else { p }
+    wide(p) * ((4294967296 + wide(a) + wide(b) - wide(p)) / 4294967296)
 }
 
 // p if a is below b, else 0.
-fn under(p: u32, a: u32, b: u32) -> u32
+fn under(p: u32, a: u32, b: u32) -> u64
     requires { ⌜ (a < p) × (b < p) ⌝ }
     ensures { λ r. ⌜ (a + negative p b) % p + b ≡ a + r ⌝ }
 {
-    if a < b { p } else { 0 }
+    wide(p) * (1 - (4294967296 + wide(a) - wide(b)) / 4294967296)
 }
 
 // a + b modulo p, of residues a and b.
@@ -40,7 +40,7 @@ pub fn sum(p: u32, a: u32, b: u32) -> u32
     requires { ⌜ (a < p) × (b < p) ⌝ }
     ensures { λ r. ⌜ r ≡ (a + b) % p ⌝ }
 {
-    (wide(a) + wide(b) - wide(over(p, a, b))) as u32
+    (wide(a) + wide(b) - over(p, a, b)) as u32
 }
 
 // a - b modulo p, of residues a and b.
@@ -48,5 +48,5 @@ pub fn difference(p: u32, a: u32, b: u32) -> u32
     requires { ⌜ (a < p) × (b < p) ⌝ }
     ensures { λ r. ⌜ r ≡ (a + negative p b) % p ⌝ }
 {
-    (wide(a) + wide(under(p, a, b)) - wide(b)) as u32
+    (wide(a) + under(p, a, b) - wide(b)) as u32
 }

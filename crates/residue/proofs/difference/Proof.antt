@@ -13,21 +13,20 @@ wide-requires c κs = search needs
 under-requires : tie.Need-under-requires
 under-requires c κs = search needs
 
+add-result : tie.Need-add-result
+add-result c =
+    let start = c .before .before in
+    omega (arith, mod-lt (start .args .a + negative (start .args .p) (start .args .b)) {m = start .args .p} (omega arith))
+
 wide-requires-2 : tie.Need-wide-requires-2
 wide-requires-2 c κs = search needs
-
-add-result : tie.Need-add-result
-add-result c = search needs
-
-wide-requires-3 : tie.Need-wide-requires-3
-wide-requires-3 c κs = search needs
 
 sub-result : tie.Need-sub-result
 sub-result c = search needs
 
 cast-result : tie.Need-cast-result
 cast-result c =
-    let start = c .before .before .before .before in
+    let start = c .before .before .before in
     omega (arith, mod-lt (start .args .a + negative (start .args .p) (start .args .b)) {m = start .args .p} (omega arith))
 
 returns : tie.Need-returns
@@ -39,9 +38,8 @@ difference-spec =
     (tie.spec
     wide-requires
     under-requires
-    wide-requires-2
     add-result
-    wide-requires-3
+    wide-requires-2
     sub-result
     cast-result
     returns)

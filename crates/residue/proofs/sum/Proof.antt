@@ -18,15 +18,12 @@ add-result c = search needs
 over-requires : tie.Need-over-requires
 over-requires c κs = search needs
 
-wide-requires-3 : tie.Need-wide-requires-3
-wide-requires-3 c κs = search needs
-
 sub-result : tie.Need-sub-result
 sub-result c = search needs
 
 cast-result : tie.Need-cast-result
 cast-result c =
-    let start = c .before .before .before .before in
+    let start = c .before .before .before in
     omega (arith, mod-lt (start .args .a + start .args .b) {m = start .args .p} (omega arith))
 
 returns : tie.Need-returns
@@ -40,7 +37,6 @@ sum-spec =
     wide-requires-2
     add-result
     over-requires
-    wide-requires-3
     sub-result
     cast-result
     returns)
