@@ -6,12 +6,10 @@
 --   halves-first       it holds before the first term
 --   halves-next        and after one more
 --   halves-total       the sum
---   halves-more halves-same   and after more terms at once, or after terms that add nothing
---   halves-few         while there are at most 136 terms, both halves stay below 2^40
 --   halves-low halves-high   while there are at most 2^30 terms, both halves stay below 2^63
 -- Assumes nothing.
 use Prim.Native.Nat.{ℕ, _+_, _-_, _*_, _/_, _%_, _^_, _<_, _≤_}
-use native.Mathlib.Nat.{add-mul, mod-add-mod, mul-le-mul}
+use native.Mathlib.Nat.{mod-add-mod, mul-le-mul}
 use native.Mathlib.Numerals.{add-one}
 use native.Mathlib.Omega.{arith}
 use mathlib.Core.Path.{_≡_}
@@ -35,27 +33,13 @@ unfolding sum
 halves-first h = halves (omega arith) (omega arith) (omega arith)
 
 module _ {c : ℕ} {f : ℕ → ℕ} {i low high : ℕ} where
-  pub halves-more : Halves c f i low high → (m l h : ℕ) → sum (i + m) f ≡ sum i f + (2 ^ 32 * h + l)
-      → l ≤ m * (2 ^ 32 - 1) → h ≤ m * (2 ^ 32 - 1) → Halves c f (i + m) (low + l) (high + h)
-  halves-more (halves total s t) m l h e b d =
-      let few : (i + m) * (2 ^ 32 - 1) ≡ i * (2 ^ 32 - 1) + m * (2 ^ 32 - 1) = add-mul i m (2 ^ 32 - 1) in
-      halves (omega arith) (omega arith) (omega arith)
-
-  pub halves-same : Halves c f i low high → (m : ℕ) → sum (i + m) f ≡ sum i f → Halves c f (i + m) low high
-  halves-same (halves total s t) m e =
-      let few : (i + m) * (2 ^ 32 - 1) ≡ i * (2 ^ 32 - 1) + m * (2 ^ 32 - 1) = add-mul i m (2 ^ 32 - 1) in
-      halves (omega arith) (omega arith) (omega arith)
-
   pub halves-next : Halves c f i low high → (z : ℕ) → z ≡ f i → z ≤ (2 ^ 32 - 1) * (2 ^ 32 - 1)
       → Halves c f (i + 1) (low + z % 2 ^ 32) (high + z / 2 ^ 32)
   unfolding sum
-  halves-next g z e b = halves-more g 1 (z % 2 ^ 32) (z / 2 ^ 32) (rw add-one (omega arith)) (omega arith) (omega arith)
+  halves-next (halves total l h) z e b = halves (rw add-one (omega arith)) (omega arith) (omega arith)
 
   pub halves-total : Halves c f i low high → 2 ^ 32 * high + low ≡ c + sum i f
   halves-total (halves total l h) = total
-
-  pub halves-few : Halves c f i low high → i ≤ 2 ^ 7 + 8 → (low < 2 ^ 40) × (high < 2 ^ 40)
-  halves-few (halves total l h) b = (omega arith, omega arith)
 
   pub halves-low : Halves c f i low high → i ≤ 2 ^ 30 → low < 2 ^ 63
   halves-low (halves total l h) b = omega arith

@@ -1,32 +1,31 @@
--- Rows of the multiplication by hand, added to the sums of the places, each kept in two halves.
+-- Rows of the multiplication by hand, added to the sums of the places, each kept in two parts.
 --
 -- Row j is place j of x times y. The list y has seven zeros before its first place, so that every row of a pass reaches the same places: row j
 -- adds x_j y_(k + 7 - j) to place k.
 --
 --   Factors b n x y            two such lists, their places below b, with room behind n places
 --   factors-below              it holds of every larger bound
---   Summed i n x y low high    the places below n hold the sums of the rows before i
---   summed-none                of no row: zeros
---   summed-small               the halves are small
---   Pass m i k n x y low high  rows i to i + m - 1 are added at the places below k, and not yet at those from k on
---   pass-first pass-last       before the first place, where all are above these rows, and after the last
---   pass-low pass-high         the halves stay small
---   pass-next                  one place more
---   four-products four-halves  four products of numbers below 2^31 fit 64 bits; the halves of four products
---   term-at                    what a row adds
---   sum-four                   four terms more of a sum
+--   fourProducts f y e         four products, one place of y after the other downwards
+--   four-rows eight-rows       what four and what eight rows add to a place
+--   IsTotal m number t         a number in two parts, of which one wraps
+--   Kept f i s h               the sum of the first i terms, kept in two such parts
+--   kept-none kept-same kept-more   of no term, after terms that are 0, and after more terms
+--   Summed i n x y sums high   the places below n hold the sums of the rows before i
+--   summed-more                rows above all places add nothing
+--   Pass m i k n x y sums high rows i to i + m - 1 are added at the places below k, and not yet at those from k on
+--   pass-first pass-next pass-last   before the first place, after one more, and after the last
+--   pass-fits                  the counts stay small
 -- Assumes nothing.
 use Prim.Native.Nat.{ℕ, suc, _+_, _-_, _*_, _/_, _%_, _<_, _≤_, _^_}
 use native.Mathlib.Decide.{decLt}
-use native.Mathlib.Nat.{add-assoc, le-refl, mul-le-mul, mul-zero}
+use native.Mathlib.Nat.{add-assoc, add-mod, add-mul, le-refl, mul-le-mul, mul-zero}
 use native.Mathlib.Omega.{arith}
-use mathlib.Core.Path.{_≡_, refl, sym, ap, _∙_}
+use mathlib.Core.Path.{_≡_, _∙_}
 use mathlib.Core.Logic.{_≢_}
 use mathlib.Core.List.{List}
 use lib.ListN.{length, getD, set, length-set}
 use lib.Seq.{getD-set-same, getD-set-other}
 use Rattle.algebra.specs.Lists.{sum-beyond}
-use Rattle.convolution.specs.Halves.{Halves, halves-low, halves-high, halves-more, halves-same}
 use Rattle.definition.specs.Lists.{sum, coefficient}
 use Rattle.definition.specs.Substitution.{productTerm}
 use Rattle.rows.specs.declared.Four.{Four}
@@ -79,20 +78,29 @@ product-below h k = mul-le-mul {n₂ = 2 ^ 31 - 1} {m₂ = 2 ^ 31 - 1} (omega ar
 abbrev pub fourProducts : Four → List ℕ → ℕ → ℕ
 fourProducts f y e = f .a * getD y (e + 3) 0 + f .b * getD y (e + 2) 0 + f .c * getD y (e + 1) 0 + f .d * getD y e 0
 
--- a total in two halves, each at most m times 2^32 - 1
-pub record IsTotal (m number : ℕ) (s : Total) : Type 0 where
-  pub whole : 2 ^ 32 * s .high + s .low ≡ number
-  pub low-small : s .low ≤ m * (2 ^ 32 - 1)
-  pub high-small : s .high ≤ m * (2 ^ 32 - 1)
+-- a number as its remainder modulo 2^64 and a count of 2^32 that falls short of it by at most m times 2^32 - 1
+pub record IsTotal (m number : ℕ) (t : Total) : Type 0 where
+  pub wraps : t .wrapped ≡ number % 2 ^ 64
+  pub lower : 2 ^ 32 * t .high ≤ number
+  pub upper : number ≤ 2 ^ 32 * t .high + m * (2 ^ 32 - 1)
+  pub few : t .high ≤ m * (2 ^ 32 - 1)
 
-pub total-eight : (v w : ℕ) → v < 2 ^ 64 → w < 2 ^ 64 → {t : Total} → t .low ≡ v % 2 ^ 32 + w % 2 ^ 32 → t .high ≡ v / 2 ^ 32 + w / 2 ^ 32
-    → IsTotal 8 (v + w) t
-total-eight v w h g l u = record { whole = omega arith; low-small = omega arith; high-small = omega arith }
+high-half : {a : ℕ} → a < 2 ^ 64 → a / 2 ^ 32 ≤ 2 ^ 32 - 1
+high-half h = omega arith
 
-pub total-four : (a b c d : ℕ) → a < 2 ^ 64 → b < 2 ^ 64 → c < 2 ^ 64 → d < 2 ^ 64 → {t : Total}
-    → t .low ≡ a % 2 ^ 32 + b % 2 ^ 32 + c % 2 ^ 32 + d % 2 ^ 32 → t .high ≡ a / 2 ^ 32 + b / 2 ^ 32 + c / 2 ^ 32 + d / 2 ^ 32
+four-small : {a b c d m : ℕ} → a ≤ m → b ≤ m → c ≤ m → d ≤ m → a + b + c + d ≤ 4 * m
+four-small f g h k = omega arith
+
+pub total-four : {a b c d : ℕ} → a < 2 ^ 64 → b < 2 ^ 64 → c < 2 ^ 64 → d < 2 ^ 64 → {t : Total}
+    → t .wrapped ≡ ((a + b) % 2 ^ 64 + (c + d) % 2 ^ 64) % 2 ^ 64
+    → t .high ≡ a / 2 ^ 32 + b / 2 ^ 32 + c / 2 ^ 32 + d / 2 ^ 32
     → IsTotal 4 (a + b + c + d) t
-total-four a b c d f g h k l u = record { whole = omega arith; low-small = omega arith; high-small = omega arith }
+total-four {a} {b} {c} {d} f g h k w u = record {
+  wraps = rw (w, ← add-mod, add-assoc (a + b) c d);
+  lower = rw u (omega arith);
+  upper = rw u (omega arith);
+  few = rw u (four-small (high-half f) (high-half g) (high-half h) (high-half k));
+}
 
 pub record Factors (b n : ℕ) (x y : List ℕ) : Type 0 where
   pub order : n ≤ 128
@@ -141,16 +149,48 @@ eight-rows x y i k e is js h =
     let a : i + 8 ≡ i + 4 + 4 = omega arith in
     rw a (four-rows x y (i + 4) k e js (omega arith) ∙ rw (four-rows x y i k (e + 4) is (omega arith)) (add-assoc _ _ _))
 
-pub record Summed (i n : ℕ) (x y low high : List ℕ) : Type 0 where
-  pub low-room : n ≤ length low
-  pub high-room : n ≤ length high
-  pub place : (k : ℕ) → k < n → Halves 0 (term x y k) i (getD low k 0) (getD high k 0)
+-- the sum of the first i terms, kept as such a number
+pub record Kept (f : ℕ → ℕ) (i s h : ℕ) : Type 0 where
+  pub wraps : s ≡ sum i f % 2 ^ 64
+  pub lower : 2 ^ 32 * h ≤ sum i f
+  pub upper : sum i f ≤ 2 ^ 32 * h + i * (2 ^ 32 - 1)
+  pub few : h ≤ i * (2 ^ 32 - 1)
 
-pub record Pass (m i k n : ℕ) (x y low high : List ℕ) : Type 0 where
-  pub low-room : n ≤ length low
+pub kept-none : (f : ℕ → ℕ) → Kept f 0 0 0
+unfolding sum
+kept-none f = record { wraps = omega arith; lower = omega arith; upper = omega arith; few = omega arith }
+
+module _ {f : ℕ → ℕ} {i s h : ℕ} (k : Kept f i s h) (m : ℕ) where
+  share : (i + m) * (2 ^ 32 - 1) ≡ i * (2 ^ 32 - 1) + m * (2 ^ 32 - 1)
+  share = add-mul i m (2 ^ 32 - 1)
+
+  pub kept-same : sum (i + m) f ≡ sum i f → Kept f (i + m) s h
+  kept-same e = record {
+    wraps = rw e (k .wraps);
+    lower = rw e (k .lower);
+    upper = omega (arith, share, k .upper);
+    few = omega (arith, share, k .few);
+  }
+
+  pub kept-more : {number : ℕ} {t : Total} → IsTotal m number t → sum (i + m) f ≡ sum i f + number
+      → Kept f (i + m) ((s + t .wrapped) % 2 ^ 64) (h + t .high)
+  kept-more t e = record {
+    wraps = rw (k .wraps, t .wraps, e, ← add-mod);
+    lower = omega (arith, k .lower, t .lower);
+    upper = omega (arith, share, k .upper, t .upper);
+    few = omega (arith, share, k .few, t .few);
+  }
+
+pub record Summed (i n : ℕ) (x y sums high : List ℕ) : Type 0 where
+  pub sums-room : n ≤ length sums
   pub high-room : n ≤ length high
-  pub done : (j : ℕ) → j < k → j < n → Halves 0 (term x y j) (i + m) (getD low j 0) (getD high j 0)
-  pub due : (j : ℕ) → k ≤ j → j < n → Halves 0 (term x y j) i (getD low j 0) (getD high j 0)
+  pub place : (k : ℕ) → k < n → Kept (term x y k) i (getD sums k 0) (getD high k 0)
+
+pub record Pass (m i k n : ℕ) (x y sums high : List ℕ) : Type 0 where
+  pub sums-room : n ≤ length sums
+  pub high-room : n ≤ length high
+  pub done : (j : ℕ) → j < k → j < n → Kept (term x y j) (i + m) (getD sums j 0) (getD high j 0)
+  pub due : (j : ℕ) → k ≤ j → j < n → Kept (term x y j) i (getD sums j 0) (getD high j 0)
 
 module _ {b n : ℕ} {x y : List ℕ} (f : Factors b n x y) where
   -- a row above a place adds nothing to it
@@ -161,57 +201,51 @@ module _ {b n : ℕ} {x y : List ℕ} (f : Factors b n x y) where
   pub rows-above : (k i j : ℕ) → k < i → i ≤ j → sum j (term x y k) ≡ sum i (term x y k)
   rows-above k i j h g = sum-beyond i j (term x y k) g (λ t a u. above k t (omega arith))
 
-  pub pass-first : {i : ℕ} {low high : List ℕ} (m : ℕ) → Summed i n x y low high → Pass m i i n x y low high
+  pub pass-first : {i : ℕ} {sums high : List ℕ} (m : ℕ) → Summed i n x y sums high → Pass m i i n x y sums high
   pass-first {i} m s = record {
-    low-room = s .low-room;
+    sums-room = s .sums-room;
     high-room = s .high-room;
-    done = λ j h l. halves-same (s .place j l) m (rows-above j i (i + m) h (omega arith));
+    done = λ j h l. kept-same (s .place j l) m (rows-above j i (i + m) h (omega arith));
     due = λ j h l. s .place j l;
   }
 
-  pub summed-more : {i : ℕ} {low high : List ℕ} → n ≤ i → (j : ℕ) → i ≤ j → Summed i n x y low high → Summed j n x y low high
+  pub summed-more : {i : ℕ} {sums high : List ℕ} → n ≤ i → (j : ℕ) → i ≤ j → Summed i n x y sums high → Summed j n x y sums high
   summed-more {i} all j h s = record {
-    low-room = s .low-room;
+    sums-room = s .sums-room;
     high-room = s .high-room;
     place = λ k b.
         let e : j ≡ i + (j - i) = omega arith in
-        rw e (halves-same (s .place k b) (j - i) (rows-above k i (i + (j - i)) (omega arith) (omega arith)));
+        rw e (kept-same (s .place k b) (j - i) (rows-above k i (i + (j - i)) (omega arith) (omega arith)));
   }
 
-module _ {m i k n : ℕ} {x y low high : List ℕ} where
-  pub pass-last : Pass m i k n x y low high → n ≤ k → Summed (i + m) n x y low high
-  pass-last s h = record {
-    low-room = s .low-room;
-    high-room = s .high-room;
-    place = λ j l. s .done j (omega arith) l;
-  }
+module _ {m i k n : ℕ} {x y sums high : List ℕ} where
+  pub pass-last : Pass m i k n x y sums high → n ≤ k → Summed (i + m) n x y sums high
+  pass-last s h = record { sums-room = s .sums-room; high-room = s .high-room; place = λ j l. s .done j (omega arith) l }
 
-  pub pass-fits : Pass m i k n x y low high → k < n → i ≤ 2 ^ 30 → m ≤ 8 → {total : ℕ} {a : Total} → IsTotal m total a
-      → (getD low k 0 + a .low < 2 ^ 64) × (getD high k 0 + a .high < 2 ^ 64)
-  pass-fits s h b few a =
+  pub pass-fits : Pass m i k n x y sums high → k < n → i ≤ 2 ^ 30 → m ≤ 8 → {number : ℕ} {t : Total} → IsTotal m number t
+      → getD high k 0 + t .high < 2 ^ 64
+  pass-fits s h b few t =
       let small : m * (2 ^ 32 - 1) ≤ 8 * (2 ^ 32 - 1) = mul-le-mul few (le-refl (2 ^ 32 - 1)) in
-      let due = s .due k (omega arith) h in (
-        omega (arith, halves-low due b, a .low-small),
-        omega (arith, halves-high due b, a .high-small),
-      )
+      omega (arith, s .due k (omega arith) h .few, t .few)
 
-  pub pass-next : Pass m i k n x y low high → k < n → {total : ℕ} {a : Total} → IsTotal m total a
-      → sum (i + m) (term x y k) ≡ sum i (term x y k) + total
-      → Pass m i (k + 1) n x y (set low k (getD low k 0 + a .low)) (set high k (getD high k 0 + a .high))
-  pass-next s inside {total} {a} sp e = record {
-    low-room = rw length-set (s .low-room);
+  pub pass-next : Pass m i k n x y sums high → k < n → {number : ℕ} {t : Total} → IsTotal m number t
+      → sum (i + m) (term x y k) ≡ sum i (term x y k) + number
+      → {v : ℕ} → v ≡ (getD sums k 0 + t .wrapped) % 2 ^ 64
+      → Pass m i (k + 1) n x y (set sums k v) (set high k (getD high k 0 + t .high))
+  pass-next s inside {number} {t} total e {v} w = record {
+    sums-room = rw length-set (s .sums-room);
     high-room = rw length-set (s .high-room);
     done = λ j b c. at j c (decLt j k) b;
-    due = λ j b c. rw (other low _ j (λ d. omega arith), other high _ j (λ d. omega arith)) (s .due j (omega arith) c);
+    due = λ j b c. rw (other sums _ j (λ d. omega arith), other high _ j (λ d. omega arith)) (s .due j (omega arith) c);
   }
     where
       other : (l : List ℕ) (a j : ℕ) → j ≢ k → getD (set l k a) j 0 ≡ getD l j 0
       other l a j d = getD-set-other l k j a 0 d
 
       at : (j : ℕ) → j < n → Dec (j < k) → j < k + 1
-          → Halves 0 (term x y j) (i + m) (getD (set low k (getD low k 0 + a .low)) j 0) (getD (set high k (getD high k 0 + a .high)) j 0)
-      at j c (yes b) h = rw (other low _ j (λ d. omega arith), other high _ j (λ d. omega arith)) (s .done j b c)
+          → Kept (term x y j) (i + m) (getD (set sums k v) j 0) (getD (set high k (getD high k 0 + t .high)) j 0)
+      at j c (yes b) h = rw (other sums _ j (λ d. omega arith), other high _ j (λ d. omega arith)) (s .done j b c)
       at j c (no b) h =
           let same : j ≡ k = omega arith in
-          rw (same, getD-set-same low k _ 0 (omega (arith, s .low-room)), getD-set-same high k _ 0 (omega (arith, s .high-room)))
-          (halves-more (s .due k (omega arith) inside) m (a .low) (a .high) (rw (sp .whole) e) (sp .low-small) (sp .high-small))
+          rw (same, getD-set-same sums k _ 0 (omega (arith, s .sums-room)), getD-set-same high k _ 0 (omega (arith, s .high-room)), w)
+          (kept-more (s .due k (omega arith) inside) m total e)

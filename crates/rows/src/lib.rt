@@ -1,5 +1,5 @@
 // Rows of the multiplication by hand: row j is place j of one factor times the other factor. Some rows are added in one pass over the places.
-// The sum of a place is exact, its low and high halves kept apart.
+// The sum of a place is exact: it is kept modulo 2^64, and beside it the sum of the high halves of what was added.
 ghost use mathlib.Core.Path.{_≡_};
 ghost use Prim.Native.Nat.{_+_, _*_, _<_, _^_};
 ghost use lib.ListN.{length};
@@ -21,9 +21,9 @@ struct Four {
     d: u64,
 }
 
-// The number 2^32 high + low.
+// A number in two parts: the number modulo 2^64, and a count of 2^32 in it that is a little too small.
 struct Total {
-    low: u64,
+    wrapped: u64,
     high: u64,
 }
 
@@ -56,12 +56,12 @@ fn eight_products(f: Four, g: Four, y: &[u64], e: usize) -> Total
     let v = sum_of_four(f, y, e + 4);
     let w = sum_of_four(g, y, e);
     Total {
-        low: v % 4294967296 + w % 4294967296,
+        wrapped: std::num::wrapping_add_u64(v, w),
         high: v / 4294967296 + w / 4294967296,
     }
 }
 
-// Four products of 32-bit numbers, each split into its halves.
+// Four products of 32-bit numbers, each counted by itself.
 fn four_products(f: Four, y: &[u64], e: usize) -> Total
     requires { ⌜ FourBelow (2 ^ 32) f × PlacesBelow (2 ^ 32) (now y) e ⌝ }
     ensures { λ r. ⌜ IsTotal 4 (fourProducts f (now (y .entry)) e) r ⌝ }
@@ -71,37 +71,40 @@ fn four_products(f: Four, y: &[u64], e: usize) -> Total
     let c = times(f.c, y[e + 1]);
     let d = times(f.d, y[e]);
     Total {
-        low: a % 4294967296 + b % 4294967296 + c % 4294967296 + d % 4294967296,
+        wrapped: std::num::wrapping_add_u64(
+            std::num::wrapping_add_u64(a, b),
+            std::num::wrapping_add_u64(c, d),
+        ),
         high: a / 4294967296 + b / 4294967296 + c / 4294967296 + d / 4294967296,
     }
 }
 
 // Adds rows i to i + 7, where the factors are below 2^31.
-pub fn add_eight_rows(i: usize, n: usize, x: &[u64], y: &[u64], low: &mut [u64], high: &mut [u64])
-    requires { ⌜ Factors (2 ^ 31) n (now x) (now y) × (i < n) × Summed i n (now x) (now y) (now low) (now high) ⌝ }
-    ensures { λ r. ⌜ Summed (i + 8) n (now (x .entry)) (now (y .entry)) (now (low .exit)) (now (high .exit)) ⌝ }
+pub fn add_eight_rows(i: usize, n: usize, x: &[u64], y: &[u64], sums: &mut [u64], high: &mut [u64])
+    requires { ⌜ Factors (2 ^ 31) n (now x) (now y) × (i < n) × Summed i n (now x) (now y) (now sums) (now high) ⌝ }
+    ensures { λ r. ⌜ Summed (i + 8) n (now (x .entry)) (now (y .entry)) (now (sums .exit)) (now (high .exit)) ⌝ }
 {
     let f = places(x, i);
     let g = places(x, i + 4);
     let mut t = i;
     while t < n {
         let s = eight_products(f, g, y, t - i);
-        low[t] += s.low;
+        sums[t] = std::num::wrapping_add_u64(sums[t], s.wrapped);
         high[t] += s.high;
         t += 1;
     }
 }
 
 // Adds rows i to i + 3.
-pub fn add_four_rows(i: usize, n: usize, x: &[u64], y: &[u64], low: &mut [u64], high: &mut [u64])
-    requires { ⌜ Factors (2 ^ 32) n (now x) (now y) × (i < n + 4) × Summed i n (now x) (now y) (now low) (now high) ⌝ }
-    ensures { λ r. ⌜ Summed (i + 4) n (now (x .entry)) (now (y .entry)) (now (low .exit)) (now (high .exit)) ⌝ }
+pub fn add_four_rows(i: usize, n: usize, x: &[u64], y: &[u64], sums: &mut [u64], high: &mut [u64])
+    requires { ⌜ Factors (2 ^ 32) n (now x) (now y) × (i < n + 4) × Summed i n (now x) (now y) (now sums) (now high) ⌝ }
+    ensures { λ r. ⌜ Summed (i + 4) n (now (x .entry)) (now (y .entry)) (now (sums .exit)) (now (high .exit)) ⌝ }
 {
     let f = places(x, i);
     let mut t = i;
     while t < n {
         let s = four_products(f, y, t - i + 4);
-        low[t] += s.low;
+        sums[t] = std::num::wrapping_add_u64(sums[t], s.wrapped);
         high[t] += s.high;
         t += 1;
     }

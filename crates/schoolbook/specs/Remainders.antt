@@ -2,18 +2,22 @@
 --
 --   residueList p n x     the first n places of x modulo p
 --   product-residues      a product of two lists modulo p is that of their residues
---   Small n l             n places below 2^40
+--   lowPart s h           what 2^32 h leaves of a number that is s modulo 2^64
+--   low-part              it is the difference that wraps
+--   Small n sums high     n places whose parts are below 2^40
 --   first-small           2^32 modulo m is at most 2^31
 --   first-term second-term   the parts of the sum with 2^32 and 2^64 replaced by their remainders modulo m: it fits 64 bits
 --   folded-remainder      and has the remainder of 2^32 high + low
 --   second-power          2^64 modulo m from 2^32 modulo m
---   remainderList p n low high   the remainders of 2^32 high + low
---   padded                a list of places below b, written into zeros
+--   remainderList p n sums high   the remainders of the sums that are kept in such parts
+--   Zeros c zs            zeros, as a local list is made
+--   factors               lists read into zeros are factors of a product by rows
 --   product-by-rows       the remainders of the sums of all rows are the product
+--   summed-none summed-small   no row is added yet; all are
 -- Assumes nothing.
 use Prim.Native.Nat.{ℕ, suc, _+_, _-_, _*_, _/_, _%_, _<_, _≤_, _^_}
 use native.Mathlib.Decide.{decLe, decLt}
-use native.Mathlib.Nat.{add-mod, mod-add-mod, mod-eq-sub-mod, mod-le, mod-lt, mul-le-mul, zero-add}
+use native.Mathlib.Nat.{add-mod, le-refl, mod-add-mod, mod-eq-sub-mod, mod-le, mod-lt, mul-le-mul, zero-add}
 use native.Mathlib.Omega.{arith}
 use mathlib.Core.Path.{_≡_, refl, sym, ap, _∙_}
 use mathlib.Core.List.{List}
@@ -25,10 +29,9 @@ use Rattle.algebra.specs.Lists.{coefficient-tabulate, length-tabulate, sum-cong
 use Rattle.algebra.specs.Remainder.{mod-mul-mod, mul-mod-mod}
 use Rattle.algebra.specs.Residue.{residues}
 use Rattle.buffer.specs.Written.{getD-sets-inside, getD-sets-other}
-use Rattle.convolution.specs.Halves.{halves-first, halves-few, halves-total}
 use Rattle.definition.specs.Lists.{sum, tabulate, coefficient}
 use Rattle.definition.specs.Substitution.{product, productTerm, cutProduct, cutProductAt}
-use Rattle.rows.specs.Rows.{Factors, Summed, term, rows-above}
+use Rattle.rows.specs.Rows.{Factors, Kept, Summed, kept-none, rows-above, term}
 
 unfoldable pub residueAt : ℕ → List ℕ → ℕ → ℕ
 residueAt p x i = coefficient x i % p
@@ -44,9 +47,41 @@ product-residues {p} l n x y =
     ∙ listed-agree (agree-⊠ (residues l) (series-listed l n (series-of l x)) (series-listed l n (series-of l y)))
     ∙ sym (cutProduct-listed l n x y))
 
-pub record Small (n : ℕ) (l : List ℕ) : Type 0 where
-  pub room : n ≤ length l
-  pub below : (k : ℕ) → k < n → getD l k 0 < 2 ^ 40
+-- what 2^32 h leaves of a number that is s modulo 2^64
+unfoldable pub lowPart : ℕ → ℕ → ℕ
+lowPart s h = (s + (2 ^ 64 - 2 ^ 32 * h % 2 ^ 64)) % 2 ^ 64
+
+pub low-part : {r s : ℕ} (h : ℕ) → r < 2 ^ 64 → (r + h % 2 ^ 32 * 2 ^ 32) % 2 ^ 64 ≡ s → r ≡ lowPart s h
+unfolding lowPart
+low-part {r} {s} h b e =
+    let m : 2 ^ 32 * h % 2 ^ 64 ≡ h % 2 ^ 32 * 2 ^ 32 = omega arith in
+    rw m (omega arith)
+
+module _ {f : ℕ → ℕ} {i s h : ℕ} (k : Kept f i s h) (b : i ≤ 136) where
+  few-terms : i * (2 ^ 32 - 1) ≤ 136 * (2 ^ 32 - 1)
+  few-terms = mul-le-mul {n₂ = 136} {m₂ = 2 ^ 32 - 1} b (le-refl (2 ^ 32 - 1))
+
+  kept-low : lowPart s h ≡ sum i f - 2 ^ 32 * h
+  unfolding lowPart
+  kept-low = rw (k .wraps) (left (k .lower) (omega (arith, few-terms, k .upper)))
+    where
+      left : {a c : ℕ} → c ≤ a → a - c < 2 ^ 64 → (a % 2 ^ 64 + (2 ^ 64 - c % 2 ^ 64)) % 2 ^ 64 ≡ a - c
+      left h g = omega arith
+
+  kept-sum : 2 ^ 32 * h + lowPart s h ≡ sum i f
+  kept-sum = rw kept-low (omega (arith, k .lower))
+
+  kept-small : lowPart s h < 2 ^ 40
+  kept-small = rw kept-low (omega (arith, few-terms, k .upper))
+
+  kept-few : h < 2 ^ 40
+  kept-few = omega (arith, few-terms, k .few)
+
+pub record Small (n : ℕ) (sums high : List ℕ) : Type 0 where
+  pub sums-room : n ≤ length sums
+  pub high-room : n ≤ length high
+  pub low-below : (k : ℕ) → k < n → lowPart (getD sums k 0) (getD high k 0) < 2 ^ 40
+  pub high-below : (k : ℕ) → k < n → getD high k 0 < 2 ^ 40
 
 pub first-small : (m : ℕ) → 0 < m → m < 2 ^ 32 → 2 ^ 32 % m ≤ 2 ^ 31
 first-small m l h = at (decLe m (2 ^ 31))
@@ -80,10 +115,10 @@ folded-remainder m high low =
     )
 
 unfoldable pub remainderAt : ℕ → List ℕ → List ℕ → ℕ → ℕ
-remainderAt p low high k = (2 ^ 32 * coefficient high k + coefficient low k) % p
+remainderAt p sums high k = (2 ^ 32 * coefficient high k + lowPart (coefficient sums k) (coefficient high k)) % p
 
 unfoldable pub remainderList : ℕ → ℕ → List ℕ → List ℕ → List ℕ
-remainderList p n low high = tabulate n (remainderAt p low high)
+remainderList p n sums high = tabulate n (remainderAt p sums high)
 
 pub record Zeros (c : ℕ) (zs : List ℕ) : Type 0 where
   pub size : length zs ≡ c
@@ -155,28 +190,29 @@ module _ {p n : ℕ} (l : 0 < p) (few : n ≤ 128) {us vs : List ℕ} (left : Ze
         zero-add j,
       )
 
-  pub product-by-rows : {i : ℕ} {low high : List ℕ} → n ≤ i → Summed i n (sets us 0 (residueList p n x)) (sets vs 7 (residueList p n y)) low high
-      → remainderList p n low high ≡ cutProduct p n x y
+  pub product-by-rows : {sums high : List ℕ} → Summed (n + 8) n (sets us 0 (residueList p n x)) (sets vs 7 (residueList p n y)) sums high
+      → remainderList p n sums high ≡ cutProduct p n x y
   unfolding remainderList remainderAt cutProduct cutProductAt product coefficient
-  product-by-rows {i} {low} {high} all s =
-      tabulate-cong n (remainderAt p low high) (cutProductAt p (residueList p n x) (residueList p n y)) at
+  product-by-rows {sums} {high} s =
+      tabulate-cong n (remainderAt p sums high) (cutProductAt p (residueList p n x) (residueList p n y)) at
       ∙ product-residues l n x y
     where
-      at : (k : ℕ) → k < n → remainderAt p low high k ≡ cutProductAt p (residueList p n x) (residueList p n y) k
+      at : (k : ℕ) → k < n → remainderAt p sums high k ≡ cutProductAt p (residueList p n x) (residueList p n y) k
       at k b = ap (λ t. t % p)
-          (halves-total (s .place k b) ∙ zero-add (sum i _) ∙ rows-above factors k (suc k) i (omega arith) (omega arith)
+          (kept-sum (s .place k b) (omega arith) ∙ rows-above factors k (suc k) (n + 8) (omega arith) (omega arith)
           ∙ sum-cong (suc k) _ (productTerm (coefficient (residueList p n x)) (coefficient (residueList p n y)) k) (inside k b))
 
 pub summed-none : {n : ℕ} {us vs : List ℕ} → n ≤ 128 → Zeros 128 us → Zeros 128 vs → (x y : List ℕ) → Summed 0 n x y us vs
 summed-none few a b x y = record {
-  low-room = rw (a .size) few;
+  sums-room = rw (a .size) few;
   high-room = rw (b .size) few;
-  place = λ k h. rw (a .blank k, b .blank k) (halves-first (omega arith));
+  place = λ k h. rw (a .blank k, b .blank k) (kept-none (term x y k));
 }
 
-module _ {n : ℕ} {x y low high : List ℕ} (few : n ≤ 128) (s : Summed (n + 8) n x y low high) where
-  pub small-low : Small n low
-  small-low = record { room = s .low-room; below = λ k b. halves-few (s .place k b) (omega arith) .0 }
-
-  pub small-high : Small n high
-  small-high = record { room = s .high-room; below = λ k b. halves-few (s .place k b) (omega arith) .1 }
+pub summed-small : {n : ℕ} {x y sums high : List ℕ} → n ≤ 128 → Summed (n + 8) n x y sums high → Small n sums high
+summed-small few s = record {
+  sums-room = s .sums-room;
+  high-room = s .high-room;
+  low-below = λ k b. kept-small (s .place k b) (omega arith);
+  high-below = λ k b. kept-few (s .place k b) (omega arith);
+}

@@ -6,7 +6,7 @@ ghost use lib.ListN.{length};
 ghost use lib.Seq.{sets};
 ghost use Rattle.definition.specs.Substitution.{cutProduct};
 ghost use Rattle.rows.specs.Rows.{Factors, Summed};
-ghost use Rattle.schoolbook.specs.Remainders.{remainderList, residueList, Small};
+ghost use Rattle.schoolbook.specs.Remainders.{lowPart, remainderList, residueList, Small};
 
 // A number as a wider one.
 fn wide(x: u32) -> u64
@@ -28,26 +28,26 @@ fn widen(p: u32, n: usize, x: &[u32], at: usize, into: &mut [u64])
 }
 
 // Adds rows i to i + 7, whatever the modulus.
-fn add_pass(p: u32, i: usize, n: usize, x: &[u64], y: &[u64], low: &mut [u64], high: &mut [u64])
-    requires { ⌜ Factors p n (now x) (now y) × (i < n) × Summed i n (now x) (now y) (now low) (now high) ⌝ }
-    ensures { λ r. ⌜ Summed (i + 8) n (now (x .entry)) (now (y .entry)) (now (low .exit)) (now (high .exit)) ⌝ }
+fn add_pass(p: u32, i: usize, n: usize, x: &[u64], y: &[u64], sums: &mut [u64], high: &mut [u64])
+    requires { ⌜ Factors p n (now x) (now y) × (i < n) × Summed i n (now x) (now y) (now sums) (now high) ⌝ }
+    ensures { λ r. ⌜ Summed (i + 8) n (now (x .entry)) (now (y .entry)) (now (sums .exit)) (now (high .exit)) ⌝ }
 {
     if p <= 2147483648 {
-        rows::add_eight_rows(i, n, x, y, low, high);
+        rows::add_eight_rows(i, n, x, y, sums, high);
     } else {
-        rows::add_four_rows(i, n, x, y, low, high);
-        rows::add_four_rows(i + 4, n, x, y, low, high);
+        rows::add_four_rows(i, n, x, y, sums, high);
+        rows::add_four_rows(i + 4, n, x, y, sums, high);
     }
 }
 
 // Adds every row that reaches a place below n.
-fn add_rows(p: u32, n: usize, x: &[u64], y: &[u64], low: &mut [u64], high: &mut [u64])
-    requires { ⌜ Factors p n (now x) (now y) × Summed 0 n (now x) (now y) (now low) (now high) ⌝ }
-    ensures { λ r. ⌜ Summed (n + 8) n (now (x .entry)) (now (y .entry)) (now (low .exit)) (now (high .exit)) ⌝ }
+fn add_rows(p: u32, n: usize, x: &[u64], y: &[u64], sums: &mut [u64], high: &mut [u64])
+    requires { ⌜ Factors p n (now x) (now y) × Summed 0 n (now x) (now y) (now sums) (now high) ⌝ }
+    ensures { λ r. ⌜ Summed (n + 8) n (now (x .entry)) (now (y .entry)) (now (sums .exit)) (now (high .exit)) ⌝ }
 {
     let mut i = 0;
     while i < n {
-        add_pass(p, i, n, x, y, low, high);
+        add_pass(p, i, n, x, y, sums, high);
         i += 8;
     }
 }
@@ -60,17 +60,25 @@ fn folded(m: u64, first: u64, second: u64, high: u64, low: u64) -> u32
     ((high / 4294967296 * second + high % 4294967296 * first + low) % m) as u32
 }
 
+// What 2^32 h leaves of a number that is s modulo 2^64.
+fn low_part(s: u64, h: u64) -> u64
+    ensures { λ r. ⌜ r ≡ lowPart s h ⌝ }
+{
+    std::num::wrapping_sub_u64(s, h % 4294967296 * 4294967296)
+}
+
 // The first n places of z become the remainders of the sums.
-fn remainders(p: u32, n: usize, low: &[u64], high: &[u64], z: &mut [u32])
-    requires { ⌜ (0 < p) × Small n (now low) × Small n (now high) × (n ≤ length (now z)) ⌝ }
-    ensures { λ r. ⌜ now (z .exit) ≡ sets (now (z .entry)) 0 (remainderList p n (now (low .entry)) (now (high .entry))) ⌝ }
+fn remainders(p: u32, n: usize, sums: &[u64], high: &[u64], z: &mut [u32])
+    requires { ⌜ (0 < p) × Small n (now sums) (now high) × (n ≤ length (now z)) ⌝ }
+    ensures { λ r. ⌜ now (z .exit) ≡ sets (now (z .entry)) 0 (remainderList p n (now (sums .entry)) (now (high .entry))) ⌝ }
 {
     let m = wide(p);
     let first = 4294967296 % m;
     let second = first * first % m;
     let mut k = 0;
     while k < n {
-        z[k] = folded(m, first, second, high[k], low[k]);
+        let h = high[k];
+        z[k] = folded(m, first, second, h, low_part(sums[k], h));
         k += 1;
     }
 }
@@ -82,10 +90,10 @@ pub fn cut_product(p: u32, n: usize, x: &[u32], y: &[u32], z: &mut [u32])
 {
     let mut left: [u64; 136] = [0; 136];
     let mut right: [u64; 136] = [0; 136];
-    let mut low: [u64; 128] = [0; 128];
+    let mut sums: [u64; 128] = [0; 128];
     let mut high: [u64; 128] = [0; 128];
     widen(p, n, x, 0, &mut left);
     widen(p, n, y, 7, &mut right);
-    add_rows(p, n, &left, &right, &mut low, &mut high);
-    remainders(p, n, &low, &high, z);
+    add_rows(p, n, &left, &right, &mut sums, &mut high);
+    remainders(p, n, &sums, &high, z);
 }

@@ -8,13 +8,14 @@ use mathlib.Core.Path.{_≡_, refl}
 use Rattle.rows.specs.Rows.{Pass, eight-rows, four-below, pass-first, pass-fits, pass-last, pass-next, places-below}
 use Rattle.rows.proofs.add_eight_rows.Statement.{statement}
 use Rattle.rows.proofs.add_eight_rows.Tie as tie
+use Rattle.std.proofs.num.wrapping_add_u64.Reads as wrapping-add-u64-reads
 
 abbrev Inv-loop : tie.InvT-loop
-Inv-loop i n x y low₀ high₀ f g t₀ low high t =
-    (i ≤ t) × (length low ≡ length low₀) × (length high ≡ length high₀) × Pass 8 i t n x y low high
+Inv-loop i n x y sums₀ high₀ f g t₀ sums high t =
+    (i ≤ t) × (length sums ≡ length sums₀) × (length high ≡ length high₀) × Pass 8 i t n x y sums high
 
 abbrev μ-loop : tie.MeasureT-loop
-μ-loop i n x y low₀ high₀ f g t₀ low high t = n - t
+μ-loop i n x y sums₀ high₀ f g t₀ sums high t = n - t
 
 places-requires : tie.Need-places-requires Inv-loop μ-loop
 places-requires c κs = search needs
@@ -52,19 +53,20 @@ eight-products-requires c κs =
       places-below (factors .right-below) _ (omega (arith, factors .right)),
     )
 
-mul-low : tie.Need-mul-low Inv-loop μ-loop
-mul-low c = search needs
+mul-wrapping-add-u64 : tie.Need-mul-wrapping-add-u64 Inv-loop μ-loop
+mul-wrapping-add-u64 c = search needs
 
-slice-read-low : tie.Need-slice-read-low Inv-loop μ-loop
-slice-read-low c = search needs
+slice-read-wrapping-add-u64 : tie.Need-slice-read-wrapping-add-u64 Inv-loop μ-loop
+slice-read-wrapping-add-u64 c = search needs
 
-add-low : tie.Need-add-low Inv-loop μ-loop
-add-low c =
-    let turn = c .before .before .before in
-    record { fits = pass-fits (turn .before .loop .inv .3) (turn .loop-test .taken) (few (turn .before)) (omega arith) (c .before .before .eight-products .ensures) .0 }
+wrapping-add-u64-requires : tie.Need-wrapping-add-u64-requires Inv-loop μ-loop
+wrapping-add-u64-requires c κs = search needs
 
-slice-write-low : tie.Need-slice-write-low Inv-loop μ-loop
-slice-write-low c = search needs
+mul-sums : tie.Need-mul-sums Inv-loop μ-loop
+mul-sums c = search needs
+
+slice-write-sums : tie.Need-slice-write-sums Inv-loop μ-loop
+slice-write-sums c = search needs
 
 mul-high : tie.Need-mul-high Inv-loop μ-loop
 mul-high c = search needs
@@ -75,7 +77,7 @@ slice-read-high c = search needs
 add-high : tie.Need-add-high Inv-loop μ-loop
 add-high c =
     let turn = c .before .before .before .before .before in
-    record { fits = pass-fits (turn .before .loop .inv .3) (turn .loop-test .taken) (few (turn .before)) (omega arith) (c .before .before .before .before .eight-products .ensures) .1 }
+    record { fits = pass-fits (turn .before .loop .inv .3) (turn .loop-test .taken) (few (turn .before)) (omega arith) (c .before .before .before .before .eight-products .ensures) }
 
 slice-write-high : tie.Need-slice-write-high Inv-loop μ-loop
 slice-write-high c = search needs
@@ -94,7 +96,7 @@ loop-again c =
       search needs,
       search needs,
       pass-next (at .loop .inv .3) (turn .loop-test .taken) (c .before .before .before .before .eight-products .ensures)
-          (eight-rows _ _ _ _ _ (at .before .before .places .ensures) (at .before .places2 .ensures) (add-sub-of-le (at .loop .inv .0))),
+          (eight-rows _ _ _ _ _ (at .before .before .places .ensures) (at .before .places2 .ensures) (add-sub-of-le (at .loop .inv .0))) (c .before .before .wrapping-add-u64 .ensures),
     )
 
 same-length : tie.Need-same-length Inv-loop μ-loop
@@ -118,10 +120,11 @@ add-eight-rows-spec =
     loop-holds
     sub-eight-products
     eight-products-requires
-    mul-low
-    slice-read-low
-    add-low
-    slice-write-low
+    mul-wrapping-add-u64
+    slice-read-wrapping-add-u64
+    wrapping-add-u64-requires
+    mul-sums
+    slice-write-sums
     mul-high
     slice-read-high
     add-high

@@ -3,7 +3,7 @@ use borrow.Author.Needs.{needs}
 use native.Mathlib.Omega.{arith}
 use lib.Seq.{sets}
 use mathlib.Core.Path.{ap, _∙_}
-use Rattle.schoolbook.specs.Remainders.{factors, product-by-rows, small-high, small-low, summed-none, zeros-replicate}
+use Rattle.schoolbook.specs.Remainders.{factors, product-by-rows, summed-none, summed-small, zeros-replicate}
 use Rattle.schoolbook.proofs.cut_product.Statement.{statement}
 use Rattle.schoolbook.proofs.cut_product.Tie as tie
 
@@ -49,7 +49,7 @@ remainders-requires : tie.Need-remainders-requires
 remainders-requires c κs =
     let start = c .before .before .before .before .before .before .before .before .before .before .before .before .before .before .before .before .before .before .before in
     let rows = c .before .before .before .before .before .add-rows .ensures in
-    (start .pre .0, small-low (start .pre .1) rows, small-high (start .pre .1) rows, start .pre .4)
+    (start .pre .0, summed-small (start .pre .1) rows, start .pre .4)
 
 same-length : tie.Need-same-length
 same-length c = search needs
@@ -60,7 +60,7 @@ returns c =
     let rows = c .before .before .before .before .before .before .before .before in
     c .before .before .remainders .ensures
     ∙ ap (sets _ 0)
-    (product-by-rows (start .pre .0) (start .pre .1) (zeros-replicate 136) (zeros-replicate 136) _ _ (omega arith)
+    (product-by-rows (start .pre .0) (start .pre .1) (zeros-replicate 136) (zeros-replicate 136) _ _
     (rw (c .before .before .before .before .before .before .before .before .before .before .before .before .before .before .before .before .before .widen .ensures, c .before .before .before .before .before .before .before .before .before .before .before .before .before .before .widen2 .ensures) at (rows .add-rows .ensures)))
 
 pub cut-product-spec : {M : Type 1} → statement M

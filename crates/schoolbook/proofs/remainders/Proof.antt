@@ -2,10 +2,8 @@
 use borrow.Author.Needs.{needs}
 use native.Mathlib.Nat.{mod-lt, zero-add}
 use native.Mathlib.Omega.{arith}
-use Prim.Native.Nat.{ℕ, _+_, _*_, _-_, _<_, _≤_, _%_, _^_}
-use lib.ListN.{length, getD, take, drop, set}
-use lib.Seq.{sets}
-use mathlib.Core.Path.{_≡_, refl, sym, ap, _∙_}
+use Prim.Native.Nat.{_-_, _%_, _<_, _^_}
+use mathlib.Core.Path.{refl, _∙_}
 use Rattle.buffer.specs.Filling.{Filling, filling-first, filling-last, filling-next}
 use Rattle.convolution.specs.Halves.{small-product}
 use Rattle.definition.specs.Lists.{coefficient}
@@ -14,10 +12,10 @@ use Rattle.schoolbook.proofs.remainders.Statement.{statement}
 use Rattle.schoolbook.proofs.remainders.Tie as tie
 
 abbrev Inv-loop : tie.InvT-loop
-Inv-loop p n low high z₀ m first second k₀ z k = Filling (remainderAt p low high) 0 n z₀ z k
+Inv-loop p n sums high z₀ m first second k₀ z k = Filling (remainderAt p sums high) 0 n z₀ z k
 
 abbrev μ-loop : tie.MeasureT-loop
-μ-loop p n low high z₀ m first second k₀ z k = n - k
+μ-loop p n sums high z₀ m first second k₀ z k = n - k
 
 wide-requires : tie.Need-wide-requires Inv-loop μ-loop
 wide-requires c κs = search needs
@@ -38,23 +36,32 @@ rem-second c = search needs
 loop-holds : tie.Need-loop-holds Inv-loop μ-loop
 loop-holds c = filling-first _ _ _ _
 
-mul-folded : tie.Need-mul-folded Inv-loop μ-loop
-mul-folded c = search needs
+mul-h : tie.Need-mul-h Inv-loop μ-loop
+mul-h c = search needs
 
-shared-slice-read-folded : tie.Need-shared-slice-read-folded Inv-loop μ-loop
-shared-slice-read-folded c = search needs
+shared-slice-read-h : tie.Need-shared-slice-read-h Inv-loop μ-loop
+shared-slice-read-h c = search needs
 
-mul-folded-2 : tie.Need-mul-folded-2 Inv-loop μ-loop
-mul-folded-2 c = search needs
+mul-low-part : tie.Need-mul-low-part Inv-loop μ-loop
+mul-low-part c = search needs
 
-shared-slice-read-folded-2 : tie.Need-shared-slice-read-folded-2 Inv-loop μ-loop
-shared-slice-read-folded-2 c = search needs
+shared-slice-read-low-part : tie.Need-shared-slice-read-low-part Inv-loop μ-loop
+shared-slice-read-low-part c = search needs
+
+low-part-requires : tie.Need-low-part-requires Inv-loop μ-loop
+low-part-requires c κs = search needs
 
 folded-requires : tie.Need-folded-requires Inv-loop μ-loop
 folded-requires c κs =
-    let turn = c .before .before in
-    let start = turn .before .before .before .before .before .before in
-    (search needs, search needs, refl, second-power _, start .pre .2 .below _ (turn .loop-test .taken), start .pre .1 .below _ (turn .loop-test .taken))
+    let turn = c .before .before .before in
+    let small = turn .before .before .before .before .before .before .pre .1 in (
+      search needs,
+      search needs,
+      refl,
+      second-power _,
+      small .high-below _ (turn .loop-test .taken),
+      rw (c .low-part .ensures) (small .low-below _ (turn .loop-test .taken)),
+    )
 
 mul-z : tie.Need-mul-z Inv-loop μ-loop
 mul-z c = search needs
@@ -71,8 +78,9 @@ loop-less c = search needs
 loop-again : tie.Need-loop-again Inv-loop μ-loop
 unfolding remainderAt coefficient
 loop-again c =
-    let turn = c .before .before .before in
-    rw zero-add at (filling-next (turn .before .loop .inv) (turn .loop-test .taken) (c .folded .ensures ∙ rw (turn .before .before .wide .ensures)))
+    let turn = c .before .before .before .before in
+    rw zero-add at (filling-next (turn .before .loop .inv) (turn .loop-test .taken)
+    (c .folded .ensures ∙ rw (turn .before .before .wide .ensures, c .before .low-part .ensures)))
 
 same-length : tie.Need-same-length Inv-loop μ-loop
 same-length c = search needs
@@ -92,10 +100,11 @@ remainders-spec =
     mul-second
     rem-second
     loop-holds
-    mul-folded
-    shared-slice-read-folded
-    mul-folded-2
-    shared-slice-read-folded-2
+    mul-h
+    shared-slice-read-h
+    mul-low-part
+    shared-slice-read-low-part
+    low-part-requires
     folded-requires
     mul-z
     slice-write-z
