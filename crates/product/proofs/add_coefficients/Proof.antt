@@ -1,5 +1,5 @@
--- `product::add_coefficients` meets its contract: before each turn the places from `first` up to k are written, and none that is still to be read.
--- Assumes nothing.
+-- `product::add_coefficients` meets its contract: before each turn the places from `first` up to k are written, and none that is still to be
+-- read. Assumes nothing.
 use borrow.Author.Needs.{needs}
 use native.Mathlib.Nat.{add-sub-cancel-left}
 use native.Mathlib.Omega.{arith}
