@@ -1,8 +1,8 @@
 -- A product of two parts of a list, added to a third part.
 --
 --   addedAt p t w z k      place t + k of w plus place k of z, modulo p
---   Parts p n a b t w      what `add_product` requires: three parts of n places inside w
---   Added                  what it ensures
+--   Parts p n a b t w      what each function requires: three parts of n places inside w
+--   Added                  what each ensures
 --   residues-product       the first n places are residues where they are a product
 --   added-joined           the sum with a product
 --   length-cutProduct      a product has n places

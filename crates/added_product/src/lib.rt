@@ -1,5 +1,6 @@
-// The product of two parts of a list modulo p, added to a third part, at most 4096 places each. The factors are read before the target is
-// written, so that the parts may lie in any way.
+// The product of two parts of a list modulo p, added to a third part, at most 4096 places each: the n places from t on become they + A B
+// modulo p, cut to n places, where A and B are the n places from a and from b on. The factors are read before the target is written, so
+// that the parts may lie in any way. There is a function for each range of lengths, and the caller chooses.
 ghost use mathlib.Core.Path.{_≡_};
 ghost use Prim.Native.Nat.{_+_, _*_, _<_, _≤_};
 ghost use lib.ListN.{length, take, drop};
@@ -35,7 +36,7 @@ fn add_places(p: u32, n: usize, z: &[u32], w: &mut [u32], t: usize)
 }
 
 // For at most 128 places: the product by rows.
-fn add_by_rows(p: u32, n: usize, w: &mut [u32], a: usize, b: usize, t: usize)
+pub fn add_by_rows(p: u32, n: usize, w: &mut [u32], a: usize, b: usize, t: usize)
     requires { ⌜ Parts p n a b t (now w) × (n ≤ 128) ⌝ }
     ensures { λ r. ⌜ Added p n a b t (now (w .entry)) (now (w .exit)) ⌝ }
 {
@@ -69,8 +70,8 @@ fn add_by_halves(
     add_places(p, n, z, w, t);
 }
 
-// The same for at most 256 places. Lists are cleared when they are made, so that few places take short lists.
-fn add_up_to_256(p: u32, n: usize, w: &mut [u32], a: usize, b: usize, t: usize)
+// By halves for at most 256 places. Lists are cleared when they are made, so that few places take short lists.
+pub fn add_up_to_256(p: u32, n: usize, w: &mut [u32], a: usize, b: usize, t: usize)
     requires { ⌜ Parts p n a b t (now w) × (n ≤ 256) ⌝ }
     ensures { λ r. ⌜ Added p n a b t (now (w .entry)) (now (w .exit)) ⌝ }
 {
@@ -81,7 +82,7 @@ fn add_up_to_256(p: u32, n: usize, w: &mut [u32], a: usize, b: usize, t: usize)
 }
 
 // The same for at most 1024 places.
-fn add_up_to_1024(p: u32, n: usize, w: &mut [u32], a: usize, b: usize, t: usize)
+pub fn add_up_to_1024(p: u32, n: usize, w: &mut [u32], a: usize, b: usize, t: usize)
     requires { ⌜ Parts p n a b t (now w) × (n ≤ 1024) ⌝ }
     ensures { λ r. ⌜ Added p n a b t (now (w .entry)) (now (w .exit)) ⌝ }
 {
@@ -92,7 +93,7 @@ fn add_up_to_1024(p: u32, n: usize, w: &mut [u32], a: usize, b: usize, t: usize)
 }
 
 // The same for at most 4096 places.
-fn add_up_to_4096(p: u32, n: usize, w: &mut [u32], a: usize, b: usize, t: usize)
+pub fn add_up_to_4096(p: u32, n: usize, w: &mut [u32], a: usize, b: usize, t: usize)
     requires { ⌜ Parts p n a b t (now w) ⌝ }
     ensures { λ r. ⌜ Added p n a b t (now (w .entry)) (now (w .exit)) ⌝ }
 {
@@ -100,20 +101,4 @@ fn add_up_to_4096(p: u32, n: usize, w: &mut [u32], a: usize, b: usize, t: usize)
     let mut y: [u32; 8704] = [0; 8704];
     let mut z: [u32; 16384] = [0; 16384];
     add_by_halves(p, n, w, a, b, t, &mut x, &mut y, &mut z);
-}
-
-// The n places from t on become they + A B modulo p, cut to n places, where A and B are the n places from a and from b on.
-pub fn add_product(p: u32, n: usize, w: &mut [u32], a: usize, b: usize, t: usize)
-    requires { ⌜ Parts p n a b t (now w) ⌝ }
-    ensures { λ r. ⌜ Added p n a b t (now (w .entry)) (now (w .exit)) ⌝ }
-{
-    if n <= 128 {
-        add_by_rows(p, n, w, a, b, t);
-    } else if n <= 256 {
-        add_up_to_256(p, n, w, a, b, t);
-    } else if n <= 1024 {
-        add_up_to_1024(p, n, w, a, b, t);
-    } else {
-        add_up_to_4096(p, n, w, a, b, t);
-    }
 }

@@ -6,24 +6,22 @@
 --   MultipliedAdd             the contract of `multiply_add`
 --   addedProduct p n a b t w  its target after the call: the n places from t on, plus the product of those from a and from b on
 --   length-joined             a sum with a product has n places
---   added-all                 this is a list of n places
---   added-next                one place more of it is written
 --   added-over                it over a target that was written before
 --   added-zeros               it over zeros is the product
 -- Assumes nothing.
-use Prim.Native.Nat.{ℕ, _+_, _%_, _^_, _<_, _≤_}
+use Prim.Native.Nat.{ℕ, _^_, _<_, _≤_}
 use native.Mathlib.Nat.{le-of-eq, le-refl, zero-add}
 use native.Mathlib.Omega.{arith}
 use mathlib.Core.Path.{_≡_, ap, _∙_}
 use mathlib.Core.List.{List}
-use lib.ListN.{length, getD, take, drop, set, replicate, length-replicate, getD-replicate}
-use lib.Seq.{sets, length-take-le, take-all}
-use Rattle.algebra.specs.Lists.{coefficient-tabulate, length-tabulate, tabulate-cong}
-use Rattle.buffer.specs.Written.{getD-sets-after, part-sets, sets-cover, sets-take}
+use lib.ListN.{length, take, drop, replicate, length-replicate, getD-replicate}
+use lib.Seq.{sets}
+use Rattle.algebra.specs.Lists.{length-tabulate, tabulate-cong}
+use Rattle.buffer.specs.Written.{part-sets, sets-cover}
 use Rattle.definition.specs.Lists.{coefficient}
 use Rattle.definition.specs.Ranged.{joined, joinedAt}
-use Rattle.definition.specs.Substitution.{product, cutProduct, cutProductAt}
-use Rattle.product.specs.Segments.{segment, Apart, apart-length, coefficient-segment, segment-kept}
+use Rattle.definition.specs.Substitution.{cutProduct, cutProductAt}
+use Rattle.product.specs.Segments.{segment, Apart, apart-length, segment-kept}
 
 pub record Operands (p n a b t : ℕ) (w : List ℕ) : Type 0 where
   pub modulus : 0 < p
@@ -59,40 +57,7 @@ unfolding joined joinedAt cutProduct cutProductAt coefficient
 joined-zeros p n u v =
     tabulate-cong n (joinedAt p (replicate n 0) u v) (cutProductAt p u v) (λ k h. rw (getD-replicate {A = ℕ} n k 0 0 h, zero-add))
 
-pub added-all : (p n a b t : ℕ) (w : List ℕ) → take n (addedProduct p n a b t w) ≡ addedProduct p n a b t w
-added-all p n a b t w =
-    take-all n (addedProduct p n a b t w) (le-of-eq (length-joined p n (segment w t n) (segment w a n) (segment w b n)))
-
--- w with the first k places written
-abbrev pub addedFirst : ℕ → ℕ → ℕ → ℕ → ℕ → List ℕ → ℕ → List ℕ
-addedFirst p n a b t w k = sets w t (take k (addedProduct p n a b t w))
-
 module _ {p n a b t : ℕ} {w : List ℕ} (o : Operands p n a b t w) where
-  abbrev now : ℕ → List ℕ
-  now k = addedFirst p n a b t w k
-
-  pub added-next : (k : ℕ) → k < n
-      → set (now k) (t + k) ((getD (now k) (t + k) 0 + product (coefficient (segment (now k) a n)) (coefficient (segment (now k) b n)) k) % p)
-      ≡ now (k + 1)
-  unfolding joined joinedAt coefficient
-  added-next k below =
-      let whole : length total ≡ n = length-joined p n (segment w t n) (segment w a n) (segment w b n) in
-      let size : length (take k total) ≡ k = length-take-le k total (omega arith) in
-      let place : getD total k 0 ≡ at k = coefficient-tabulate n at k below in
-      rw (
-        segment-kept (o .left) (take k total) (omega arith),
-        segment-kept (o .right) (take k total) (omega arith),
-        getD-sets-after w t (take k total) (t + k) 0 (omega arith),
-        ← coefficient-segment w t n k below,
-      )
-      (rw (← place) (sets-take w t total k 0 (omega arith)))
-    where
-      at : ℕ → ℕ
-      at = joinedAt p (segment w t n) (segment w a n) (segment w b n)
-
-      total : List ℕ
-      total = addedProduct p n a b t w
-
   pub added-over : (us : List ℕ) → length us ≡ n
       → sets (sets w t us) t (addedProduct p n a b t (sets w t us)) ≡ sets w t (joined p n us (segment w a n) (segment w b n))
   added-over us size =

@@ -1,21 +1,21 @@
--- `product::add_coefficients` meets its contract: after k turns the first k places are written, and none that is still to be read.
--- Assumes nothing.
+-- `product::add_coefficients` meets its contract: before each turn the places from `first` up to k are written, and none that is still to be
+-- read. Assumes nothing.
 use borrow.Author.Needs.{needs}
 use native.Mathlib.Nat.{add-sub-cancel-left}
 use native.Mathlib.Omega.{arith}
 use Prim.Native.Nat.{_-_, _≤_}
 use mathlib.Core.Path.{_≡_, _∙_}
 use lib.ListN.{length}
-use Rattle.product.specs.Single.{addedFirst, added-all, added-next}
+use Rattle.product.specs.Long.{addedFrom, from-first, from-last, from-next}
 use Rattle.product.proofs.add_coefficients.Statement.{statement}
 use Rattle.product.proofs.add_coefficients.Tie as tie
 
 abbrev Inv-loop : tie.InvT-loop
-Inv-loop p n w₀ a b t end-a end-b k₀ w k =
-    (k ≤ n) × (length w ≡ length w₀) × (w ≡ addedFirst p n a b t w₀ k)
+Inv-loop p n w₀ a b t first end-a end-b k₀ w k =
+    (first ≤ k) × (k ≤ n) × (length w ≡ length w₀) × (w ≡ addedFrom p n a b t first w₀ k)
 
 abbrev μ-loop : tie.MeasureT-loop
-μ-loop p n w₀ a b t end-a end-b k₀ w k = n - k
+μ-loop p n w₀ a b t first end-a end-b k₀ w k = n - k
 
 add-end-a : tie.Need-add-end-a Inv-loop μ-loop
 add-end-a c = search needs
@@ -24,7 +24,9 @@ add-end-b : tie.Need-add-end-b Inv-loop μ-loop
 add-end-b c = search needs
 
 loop-holds : tie.Need-loop-holds Inv-loop μ-loop
-loop-holds c = search needs
+loop-holds c =
+    let args = c .before .args in
+    (search needs, search needs, search needs, from-first (args .p) (args .n) (args .a) (args .b) (args .t) (args .first) (args .w .now))
 
 add-c : tie.Need-add-c Inv-loop μ-loop
 add-c c = search needs
@@ -82,8 +84,10 @@ loop-again c =
     let at = c .before .before .before .before .before .before in (
       search needs,
       search needs,
-      rw (c .product-coefficient .ensures, add-sub-cancel-left, add-sub-cancel-left, at .loop .inv .2)
-          (added-next (at .before .before .pre) (at .loop .k) (c .before .before .before .before .before .loop-test .taken)),
+      search needs,
+      rw (c .product-coefficient .ensures, add-sub-cancel-left, add-sub-cancel-left, at .loop .inv .3)
+          (from-next (at .before .before .pre .0) (at .before .before .args .first) (at .loop .k) (at .loop .inv .0)
+          (c .before .before .before .before .before .loop-test .taken)),
     )
 
 same-length : tie.Need-same-length Inv-loop μ-loop
@@ -91,8 +95,9 @@ same-length c = search needs
 
 returns : tie.Need-returns Inv-loop μ-loop
 returns c =
-    let all : c .before .loop .k ≡ c .before .before .before .args .n = omega arith in
-    c .before .loop .inv .2 ∙ rw (all, added-all)
+    let args = c .before .before .before .args in
+    let all : c .before .loop .k ≡ args .n = omega arith in
+    c .before .loop .inv .3 ∙ rw all (from-last (args .p) (args .n) (args .a) (args .b) (args .t) (args .first) (args .w .now))
 
 pub add-coefficients-spec : {M : Type 1} → statement M
 add-coefficients-spec =
