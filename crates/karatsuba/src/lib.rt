@@ -43,20 +43,20 @@ fn pair_sums(p: u32, n: usize, count: usize, x: &mut [u32])
     }
 }
 
-// The first n places become the product: those of its parts stand from n on, the even one, the odd one and that of the sums.
-fn weave(p: u32, n: usize, z: &mut [u32])
-    requires { ⌜ Woven p n (now z) ⌝ }
-    ensures { λ _. ⌜ now (z .exit) ≡ sets (now (z .entry)) 0 (tabulate n (woven p n (now (z .entry)))) ⌝ }
+// The first n places of z become the product: r holds those of its parts, the even one, the odd one from the middle of n on and that of the
+// sums from n on.
+fn weave(p: u32, n: usize, r: &[u32], z: &mut [u32])
+    requires { ⌜ Woven p n (now r) (now z) ⌝ }
+    ensures { λ _. ⌜ now (z .exit) ≡ sets (now (z .entry)) 0 (tabulate n (woven p n (now (r .entry)))) ⌝ }
 {
     let half = n / 2;
-    let odd = n + (n - half);
-    let sums = 2 * n;
+    let rounded = n - half;
     let mut before = 0;
     let mut i = 0;
     while i < half {
-        let e = z[n + i];
-        let o = z[odd + i];
-        let m = z[sums + i];
+        let e = r[i];
+        let o = r[rounded + i];
+        let m = r[n + i];
         let even = residue::sum(p, e, before);
         let cross = cross(p, m, e, o);
         z[2 * i] = even;
@@ -65,7 +65,7 @@ fn weave(p: u32, n: usize, z: &mut [u32])
         i += 1;
     }
     if 2 * half < n {
-        z[2 * half] = residue::sum(p, z[n + half], before);
+        z[2 * half] = residue::sum(p, r[half], before);
     }
 }
 
@@ -81,7 +81,7 @@ fn part(p: u32, n: usize, which: usize, count: usize, x: &mut [u32])
     }
 }
 
-// The `count` places of z from t on become the product of such parts of x and of y.
+// The `count` places of r from t on become the product of such parts of x and of y. What lies behind the first n places of z is room.
 fn third(
     p: u32,
     n: usize,
@@ -90,20 +90,21 @@ fn third(
     x: &mut [u32],
     y: &mut [u32],
     z: &mut [u32],
+    r: &mut [u32],
     t: usize,
 )
-    requires { ⌜ ThirdRoom p n which count t (now x) (now y) (now z) ⌝ }
-    ensures { λ _. ⌜ Third p n which count t (now (x .entry)) (now (x .exit)) (now (y .entry)) (now (y .exit)) (now (z .entry)) (now (z .exit)) ⌝ }
+    requires { ⌜ ThirdRoom p n which count t (now x) (now y) (now z) (now r) ⌝ }
+    ensures { λ _. ⌜ Third p n which count t (now (x .entry)) (now (x .exit)) (now (y .entry)) (now (y .exit)) (now (r .entry)) (now (r .exit)) ⌝ }
 {
     part(p, n, which, count, x);
     part(p, n, which, count, y);
-    cut_product(p, count, &mut x[n..], &mut y[n..], &mut z[t..]);
+    cut_product(p, count, &mut x[n..], &mut y[n..], &mut r[t..], &mut z[n..]);
 }
 
 // The first n places of z become the product of the first n places of x and of y modulo p, cut to n places. What lies behind them in the
-// three lists is room.
-pub fn cut_product(p: u32, n: usize, x: &mut [u32], y: &mut [u32], z: &mut [u32])
-    requires { ⌜ Room p n (now x) (now y) (now z) ⌝ }
+// three lists and all of r is room.
+pub fn cut_product(p: u32, n: usize, x: &mut [u32], y: &mut [u32], z: &mut [u32], r: &mut [u32])
+    requires { ⌜ Room p n (now x) (now y) (now z) (now r) ⌝ }
     ensures { λ _. ⌜ take n (now (z .exit)) ≡ cutProduct p n (now (x .entry)) (now (y .entry)) ⌝ }
 {
     if n <= 128 {
@@ -112,8 +113,8 @@ pub fn cut_product(p: u32, n: usize, x: &mut [u32], y: &mut [u32], z: &mut [u32]
     }
     let half = n / 2;
     let rounded = n - half;
-    third(p, n, 0, rounded, x, y, z, n);
-    third(p, n, 1, half, x, y, z, n + rounded);
-    third(p, n, 2, half, x, y, z, 2 * n);
-    weave(p, n, z);
+    third(p, n, 0, rounded, x, y, z, r, 0);
+    third(p, n, 1, half, x, y, z, r, rounded);
+    third(p, n, 2, half, x, y, z, r, n);
+    weave(p, n, r, z);
 }
