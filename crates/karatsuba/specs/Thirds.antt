@@ -36,7 +36,7 @@ product-residue {p} a c r u v positive e k h g =
     rw (i, ← getD-drop, ← getD-take c (drop a r) (k - a) 0 (omega arith), e, coefficient-tabulate c (cutProductAt p u v) (k - a) (omega arith))
     (mod-lt _ positive)
 
-module _ {p n : ℕ} {x y z r x₁ y₁ r₁ x₂ y₂ r₂ x₃ y₃ r₃ : List ℕ} (room : Room p n x y z r) (size : length r₃ ≡ length r)
+module _ {p n : ℕ} {x u y v z r x₁ y₁ r₁ x₂ y₂ r₂ x₃ y₃ r₃ : List ℕ} (room : Room p n x u y v z r) (size : length r₃ ≡ length r)
     (evens : Third p n 0 (n - n / 2) 0 x x₁ y y₁ r r₁)
     (odds : Third p n 1 (n / 2) (n - n / 2) x₁ x₂ y₁ y₂ r₁ r₂)
     (sums : Third p n 2 (n / 2) n x₂ x₃ y₂ y₃ r₂ r₃) where

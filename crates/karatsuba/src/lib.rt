@@ -19,26 +19,26 @@ fn cross(p: u32, m: u32, e: u32, o: u32) -> u32
     residue::difference(p, residue::difference(p, m, e), o)
 }
 
-// The `count` places from n on become the places `from`, `from` + 2 and so on of the first n.
-fn every_second(n: usize, from: usize, count: usize, x: &mut [u32])
-    requires { ⌜ (from + 2 * count ≤ n + 1) × (n + count ≤ length (now x)) ⌝ }
-    ensures { λ _. ⌜ now (x .exit) ≡ sets (now (x .entry)) n (tabulate count (second from (take n (now (x .entry))))) ⌝ }
+// The first `count` places of u become the places `from`, `from` + 2 and so on of the first n of x.
+fn every_second(n: usize, from: usize, count: usize, x: &[u32], u: &mut [u32])
+    requires { ⌜ (from + 2 * count ≤ n + 1) × (n ≤ length (now x)) × (count ≤ length (now u)) ⌝ }
+    ensures { λ _. ⌜ now (u .exit) ≡ sets (now (u .entry)) 0 (tabulate count (second from (take n (now (x .entry))))) ⌝ }
 {
     let mut i = 0;
     while i < count {
-        x[n + i] = x[2 * i + from];
+        u[i] = x[2 * i + from];
         i += 1;
     }
 }
 
-// The `count` places from n on become the sums of neighbours among the first n.
-fn pair_sums(p: u32, n: usize, count: usize, x: &mut [u32])
-    requires { ⌜ (2 * count ≤ n) × (n + count ≤ length (now x)) × Residues p n (now x) ⌝ }
-    ensures { λ _. ⌜ now (x .exit) ≡ sets (now (x .entry)) n (tabulate count (neighbourSum p (take n (now (x .entry))))) ⌝ }
+// The first `count` places of u become the sums of neighbours among the first n of x.
+fn pair_sums(p: u32, n: usize, count: usize, x: &[u32], u: &mut [u32])
+    requires { ⌜ (2 * count ≤ n) × (n ≤ length (now x)) × (count ≤ length (now u)) × Residues p n (now x) ⌝ }
+    ensures { λ _. ⌜ now (u .exit) ≡ sets (now (u .entry)) 0 (tabulate count (neighbourSum p (take n (now (x .entry))))) ⌝ }
 {
     let mut i = 0;
     while i < count {
-        x[n + i] = residue::sum(p, x[2 * i], x[2 * i + 1]);
+        u[i] = residue::sum(p, x[2 * i], x[2 * i + 1]);
         i += 1;
     }
 }
@@ -69,42 +69,63 @@ fn weave(p: u32, n: usize, r: &[u32], z: &mut [u32])
     }
 }
 
-// The `count` places from n on become a part of the first n: the even places (0), the odd places (1), or the sums of neighbours (2).
-fn part(p: u32, n: usize, which: usize, count: usize, x: &mut [u32])
-    requires { ⌜ (2 * count ≤ n + (1 - which)) × (n + count ≤ length (now x)) × Residues p n (now x) ⌝ }
-    ensures { λ _. ⌜ now (x .exit) ≡ sets (now (x .entry)) n (part p n which count (now (x .entry))) ⌝ }
+// The first `count` places of u become a part of the first n of x: the even places (0), the odd places (1), or the sums of neighbours (2).
+fn part(p: u32, n: usize, which: usize, count: usize, x: &[u32], u: &mut [u32])
+    requires { ⌜ (2 * count ≤ n + (1 - which)) × (n ≤ length (now x)) × (count ≤ length (now u)) × Residues p n (now x) ⌝ }
+    ensures { λ _. ⌜ now (u .exit) ≡ sets (now (u .entry)) 0 (part p n which count (now (x .entry))) ⌝ }
 {
     if which < 2 {
-        every_second(n, which, count, x);
+        every_second(n, which, count, x, u);
     } else {
-        pair_sums(p, n, count, x);
+        pair_sums(p, n, count, x, u);
     }
 }
 
-// The `count` places of r from t on become the product of such parts of x and of y. What lies behind the first n places of z is room.
+// The `count` places of r from t on become the product of such parts of x and of y, which are made in u and v. What lies behind the first n
+// places of x, y and z is room.
 fn third(
     p: u32,
     n: usize,
     which: usize,
     count: usize,
     x: &mut [u32],
+    u: &mut [u32],
     y: &mut [u32],
+    v: &mut [u32],
     z: &mut [u32],
     r: &mut [u32],
     t: usize,
 )
-    requires { ⌜ ThirdRoom p n which count t (now x) (now y) (now z) (now r) ⌝ }
+    requires { ⌜ ThirdRoom p n which count t (now x) (now u) (now y) (now v) (now z) (now r) ⌝ }
     ensures { λ _. ⌜ Third p n which count t (now (x .entry)) (now (x .exit)) (now (y .entry)) (now (y .exit)) (now (r .entry)) (now (r .exit)) ⌝ }
 {
-    part(p, n, which, count, x);
-    part(p, n, which, count, y);
-    cut_product(p, count, &mut x[n..], &mut y[n..], &mut r[t..], &mut z[n..]);
+    part(p, n, which, count, x, u);
+    part(p, n, which, count, y, v);
+    cut_product(
+        p,
+        count,
+        u,
+        &mut x[n..],
+        v,
+        &mut y[n..],
+        &mut r[t..],
+        &mut z[n..],
+    );
 }
 
-// The first n places of z become the product of the first n places of x and of y modulo p, cut to n places. What lies behind them in the
-// three lists and all of r is room.
-pub fn cut_product(p: u32, n: usize, x: &mut [u32], y: &mut [u32], z: &mut [u32], r: &mut [u32])
-    requires { ⌜ Room p n (now x) (now y) (now z) (now r) ⌝ }
+// The first n places of z become the product of the first n places of x and of y modulo p, cut to n places. What lies behind them in these
+// three lists and all of u, v and r is room. A loop reads one list and writes another, which compilers make faster.
+pub fn cut_product(
+    p: u32,
+    n: usize,
+    x: &mut [u32],
+    u: &mut [u32],
+    y: &mut [u32],
+    v: &mut [u32],
+    z: &mut [u32],
+    r: &mut [u32],
+)
+    requires { ⌜ Room p n (now x) (now u) (now y) (now v) (now z) (now r) ⌝ }
     ensures { λ _. ⌜ take n (now (z .exit)) ≡ cutProduct p n (now (x .entry)) (now (y .entry)) ⌝ }
 {
     if n <= 128 {
@@ -113,8 +134,8 @@ pub fn cut_product(p: u32, n: usize, x: &mut [u32], y: &mut [u32], z: &mut [u32]
     }
     let half = n / 2;
     let rounded = n - half;
-    third(p, n, 0, rounded, x, y, z, r, 0);
-    third(p, n, 1, half, x, y, z, r, rounded);
-    third(p, n, 2, half, x, y, z, r, n);
+    third(p, n, 0, rounded, x, u, y, v, z, r, 0);
+    third(p, n, 1, half, x, u, y, v, z, r, rounded);
+    third(p, n, 2, half, x, u, y, v, z, r, n);
     weave(p, n, r, z);
 }
