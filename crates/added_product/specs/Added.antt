@@ -2,6 +2,7 @@
 --
 --   addedAt p t w z k      place t + k of w plus place k of z, modulo p
 --   Parts p n a b t w      what each function requires: three parts of n places inside w
+--   Lists n x u y v z r    six lists long enough for a product by halves
 --   Added                  what each ensures
 --   residues-product       the first n places are residues where they are a product
 --   added-joined           the sum with a product
@@ -9,7 +10,7 @@
 --   loaded-residues        residues read into the front of a list
 --   loaded-product         and the product of two such lists
 -- Assumes nothing.
-use Prim.Native.Nat.{ℕ, _+_, _%_, _<_, _≤_}
+use Prim.Native.Nat.{ℕ, _+_, _*_, _%_, _<_, _≤_}
 use native.Mathlib.Nat.{add-mod-mod, mod-lt}
 use native.Mathlib.Omega.{arith}
 use mathlib.Core.List.{List}
@@ -34,6 +35,14 @@ pub record Parts (p n a b t : ℕ) (w : List ℕ) : Type 0 where
   pub left : a + n ≤ length w
   pub right : b + n ≤ length w
   pub target : t + n ≤ length w
+
+pub record Lists (n : ℕ) (x u y v z r : List ℕ) : Type 0 where
+  pub left : 3 * n ≤ 2 * length x
+  pub left-parts : 7 * n ≤ 8 * length u
+  pub right : 3 * n ≤ 2 * length y
+  pub right-parts : 7 * n ≤ 8 * length v
+  pub target : 17 * n ≤ 8 * length z
+  pub products : 17 * n ≤ 8 * length r
 
 pub record Added (p n a b t : ℕ) (before after : List ℕ) : Type 0 where
   pub written : after ≡ sets before t (joined p n (take n (drop t before)) (take n (drop a before)) (take n (drop b before)))

@@ -8,7 +8,7 @@ ghost use lib.Seq.{sets};
 ghost use Rattle.definition.specs.Lists.{tabulate};
 ghost use Rattle.karatsuba.specs.Halves.{Residues};
 ghost use Rattle.schoolbook.specs.Remainders.{residueList};
-ghost use Rattle.added_product.specs.Added.{Added, Parts, addedAt};
+ghost use Rattle.added_product.specs.Added.{Added, Lists, Parts, addedAt};
 
 // The first n places of z become those of x modulo p.
 fn load(p: u32, n: usize, x: &[u32], z: &mut [u32])
@@ -47,7 +47,7 @@ pub fn add_by_rows(p: u32, n: usize, w: &mut [u32], a: usize, b: usize, t: usize
     add_places(p, n, &z, w, t);
 }
 
-// For more places: the product by halves, in the three lists.
+// For more places: the product by halves, in the six lists.
 fn add_by_halves(
     p: u32,
     n: usize,
@@ -56,17 +56,20 @@ fn add_by_halves(
     b: usize,
     t: usize,
     x: &mut [u32],
+    u: &mut [u32],
     y: &mut [u32],
+    v: &mut [u32],
     z: &mut [u32],
+    r: &mut [u32],
 )
-    requires { ⌜ Parts p n a b t (now w) × (17 * n ≤ 8 * length (now x)) × (17 * n ≤ 8 * length (now y)) × (4 * n ≤ length (now z)) ⌝ }
+    requires { ⌜ Parts p n a b t (now w) × Lists n (now x) (now u) (now y) (now v) (now z) (now r) ⌝ }
     ensures { λ r. ⌜ Added p n a b t (now (w .entry)) (now (w .exit)) ⌝ }
 {
     let end_a = a + n;
     let end_b = b + n;
     load(p, n, &w[a..end_a], x);
     load(p, n, &w[b..end_b], y);
-    karatsuba::cut_product(p, n, x, y, z);
+    karatsuba::cut_product(p, n, x, u, y, v, z, r);
     add_places(p, n, z, w, t);
 }
 
@@ -75,10 +78,26 @@ pub fn add_up_to_256(p: u32, n: usize, w: &mut [u32], a: usize, b: usize, t: usi
     requires { ⌜ Parts p n a b t (now w) × (n ≤ 256) ⌝ }
     ensures { λ r. ⌜ Added p n a b t (now (w .entry)) (now (w .exit)) ⌝ }
 {
-    let mut x: [u32; 544] = [0; 544];
-    let mut y: [u32; 544] = [0; 544];
-    let mut z: [u32; 1024] = [0; 1024];
-    add_by_halves(p, n, w, a, b, t, &mut x, &mut y, &mut z);
+    let mut x: [u32; 384] = [0; 384];
+    let mut u: [u32; 224] = [0; 224];
+    let mut y: [u32; 384] = [0; 384];
+    let mut v: [u32; 224] = [0; 224];
+    let mut z: [u32; 544] = [0; 544];
+    let mut r: [u32; 544] = [0; 544];
+    add_by_halves(
+        p,
+        n,
+        w,
+        a,
+        b,
+        t,
+        &mut x,
+        &mut u,
+        &mut y,
+        &mut v,
+        &mut z,
+        &mut r,
+    );
 }
 
 // The same for at most 1024 places.
@@ -86,10 +105,26 @@ pub fn add_up_to_1024(p: u32, n: usize, w: &mut [u32], a: usize, b: usize, t: us
     requires { ⌜ Parts p n a b t (now w) × (n ≤ 1024) ⌝ }
     ensures { λ r. ⌜ Added p n a b t (now (w .entry)) (now (w .exit)) ⌝ }
 {
-    let mut x: [u32; 2176] = [0; 2176];
-    let mut y: [u32; 2176] = [0; 2176];
-    let mut z: [u32; 4096] = [0; 4096];
-    add_by_halves(p, n, w, a, b, t, &mut x, &mut y, &mut z);
+    let mut x: [u32; 1536] = [0; 1536];
+    let mut u: [u32; 896] = [0; 896];
+    let mut y: [u32; 1536] = [0; 1536];
+    let mut v: [u32; 896] = [0; 896];
+    let mut z: [u32; 2176] = [0; 2176];
+    let mut r: [u32; 2176] = [0; 2176];
+    add_by_halves(
+        p,
+        n,
+        w,
+        a,
+        b,
+        t,
+        &mut x,
+        &mut u,
+        &mut y,
+        &mut v,
+        &mut z,
+        &mut r,
+    );
 }
 
 // The same for at most 4096 places.
@@ -97,8 +132,24 @@ pub fn add_up_to_4096(p: u32, n: usize, w: &mut [u32], a: usize, b: usize, t: us
     requires { ⌜ Parts p n a b t (now w) ⌝ }
     ensures { λ r. ⌜ Added p n a b t (now (w .entry)) (now (w .exit)) ⌝ }
 {
-    let mut x: [u32; 8704] = [0; 8704];
-    let mut y: [u32; 8704] = [0; 8704];
-    let mut z: [u32; 16384] = [0; 16384];
-    add_by_halves(p, n, w, a, b, t, &mut x, &mut y, &mut z);
+    let mut x: [u32; 6144] = [0; 6144];
+    let mut u: [u32; 3584] = [0; 3584];
+    let mut y: [u32; 6144] = [0; 6144];
+    let mut v: [u32; 3584] = [0; 3584];
+    let mut z: [u32; 8704] = [0; 8704];
+    let mut r: [u32; 8704] = [0; 8704];
+    add_by_halves(
+        p,
+        n,
+        w,
+        a,
+        b,
+        t,
+        &mut x,
+        &mut u,
+        &mut y,
+        &mut v,
+        &mut z,
+        &mut r,
+    );
 }

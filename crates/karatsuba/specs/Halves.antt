@@ -6,19 +6,17 @@
 --   part p n which count x   the list of `count` of them, for the first n places of x
 --   part-second part-sums   which it is
 --   Residues p n x      the first n places of x are below p
---   kept-residue        they stay so while a table is written behind them
---   residues-kept       and in every list with the same first n places
+--   residues-kept       and so they are in every list with the same first n places
 --   part-residue        places of a part are below p too
 -- Assumes nothing.
 use Prim.Native.Nat.{ℕ, zero, suc, _+_, _-_, _*_, _%_, _<_, _≤_}
 use native.Mathlib.Nat.{mod-lt}
 use native.Mathlib.Omega.{arith}
 use mathlib.Core.List.{List}
-use mathlib.Core.Path.{_≡_, refl, sym, _∙_}
-use lib.ListN.{getD, take}
+use mathlib.Core.Path.{_≡_, refl}
+use lib.ListN.{take}
 use lib.Seq.{getD-take}
 use Rattle.algebra.specs.Lists.{coefficient-tabulate}
-use Rattle.buffer.specs.Filling.{Filling, filling-before}
 use Rattle.definition.specs.Lists.{coefficient, tabulate}
 
 unfoldable pub second : ℕ → List ℕ → ℕ → ℕ
@@ -50,16 +48,6 @@ module _ (p n count : ℕ) (x : List ℕ) where
 
 abbrev pub Residues : ℕ → ℕ → List ℕ → Type 0
 Residues p n x = (k : ℕ) → k < n → coefficient x k < p
-
-pub kept-place : {f : ℕ → ℕ} {n count k : ℕ} {before now : List ℕ} → Filling f n count before now k
-    → (i : ℕ) → i < n → getD now i 0 ≡ getD (take n before) i 0
-kept-place {n} {before} filling i below = filling-before filling i below ∙ sym (getD-take n before i 0 below)
-
-pub kept-residue : {f : ℕ → ℕ} {p n count k : ℕ} {before now : List ℕ} → Filling f n count before now k → Residues p n before
-    → (i : ℕ) → i < n → getD now i 0 < p
-unfolding coefficient
-kept-residue {n} {before} filling small i below =
-    rw (filling-before filling i below) (small i below)
 
 pub residues-kept : {p : ℕ} (n : ℕ) (x x' : List ℕ) → take n x' ≡ take n x → Residues p n x → Residues p n x'
 unfolding coefficient

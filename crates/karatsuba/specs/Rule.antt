@@ -113,19 +113,19 @@ module _ {p : ℕ} (l : 0 < p) where
   pub cutProduct-taken : (c : ℕ) (xs ys : List ℕ) → cutProduct p c (take c xs) (take c ys) ≡ cutProduct p c xs ys
   cutProduct-taken c xs ys = product-listed (take c xs) (take c ys) (taken-agree c xs) (taken-agree c ys) ∙ sym (cutProduct-listed l c xs ys)
 
-  pub rule : (n : ℕ) (xs ys z : List ℕ)
-      → take (n - n / 2) (drop n z) ≡ cutProduct p (n - n / 2) (part p n 0 (n - n / 2) xs) (part p n 0 (n - n / 2) ys)
-      → take (n / 2) (drop (n + (n - n / 2)) z) ≡ cutProduct p (n / 2) (part p n 1 (n / 2) xs) (part p n 1 (n / 2) ys)
-      → take (n / 2) (drop (2 * n) z) ≡ cutProduct p (n / 2) (part p n 2 (n / 2) xs) (part p n 2 (n / 2) ys)
-      → tabulate n (woven p n z) ≡ cutProduct p n xs ys
-  rule n xs ys z e o m =
+  pub rule : (n : ℕ) (xs ys r : List ℕ)
+      → take (n - n / 2) r ≡ cutProduct p (n - n / 2) (part p n 0 (n - n / 2) xs) (part p n 0 (n - n / 2) ys)
+      → take (n / 2) (drop (n - n / 2) r) ≡ cutProduct p (n / 2) (part p n 1 (n / 2) xs) (part p n 1 (n / 2) ys)
+      → take (n / 2) (drop n r) ≡ cutProduct p (n / 2) (part p n 2 (n / 2) xs) (part p n 2 (n / 2) ys)
+      → tabulate n (woven p n r) ≡ cutProduct p n xs ys
+  rule n xs ys r e o m =
       sym (cutProduct-listed l n xs ys
-      ∙ table-of n (woven p n z) _ (length-listed n _)
+      ∙ table-of n (woven p n r) _ (length-listed n _)
       (λ k h. coefficient-listed n _ k h ∙ sym (woven-product l (series-of l xs) (series-of l ys) n _ _ _ thirds k h)))
     where
-      thirds : Thirds l (series-of l xs) (series-of l ys) n (coefficient (drop n z)) (coefficient (drop (n + (n - n / 2)) z)) (coefficient (drop (2 * n) z))
+      thirds : Thirds l (series-of l xs) (series-of l ys) n (coefficient r) (coefficient (drop (n - n / 2) r)) (coefficient (drop n r))
       thirds = record {
-        evens = product-place (part p n 0 (n - n / 2) xs) (part p n 0 (n - n / 2) ys) (evens-agree n xs) (evens-agree n ys) (drop n z) e;
-        odds = product-place (part p n 1 (n / 2) xs) (part p n 1 (n / 2) ys) (odds-agree n xs) (odds-agree n ys) (drop (n + (n - n / 2)) z) o;
-        sums = product-place (part p n 2 (n / 2) xs) (part p n 2 (n / 2) ys) (sums-agree n xs) (sums-agree n ys) (drop (2 * n) z) m;
+        evens = product-place (part p n 0 (n - n / 2) xs) (part p n 0 (n - n / 2) ys) (evens-agree n xs) (evens-agree n ys) r e;
+        odds = product-place (part p n 1 (n / 2) xs) (part p n 1 (n / 2) ys) (odds-agree n xs) (odds-agree n ys) (drop (n - n / 2) r) o;
+        sums = product-place (part p n 2 (n / 2) xs) (part p n 2 (n / 2) ys) (sums-agree n xs) (sums-agree n ys) (drop n r) m;
       }

@@ -29,44 +29,46 @@ segment-kept : (a c b : ℕ) (z z' : List ℕ) → take b z' ≡ take b z → a 
 segment-kept a c b z z' e h =
     rw (← drop-take a c z', ← drop-take a c z, ← take-take (a + c) b z' h, ← take-take (a + c) b z h, e)
 
-product-residue : {p : ℕ} (a c : ℕ) (z u v : List ℕ) → 0 < p → take c (drop a z) ≡ cutProduct p c u v → (k : ℕ) → a ≤ k → k < a + c → coefficient z k < p
+product-residue : {p : ℕ} (a c : ℕ) (r u v : List ℕ) → 0 < p → take c (drop a r) ≡ cutProduct p c u v → (k : ℕ) → a ≤ k → k < a + c → coefficient r k < p
 unfolding coefficient cutProduct cutProductAt
-product-residue {p} a c z u v positive e k h g =
+product-residue {p} a c r u v positive e k h g =
     let i : k ≡ a + (k - a) = omega arith in
-    rw (i, ← getD-drop, ← getD-take c (drop a z) (k - a) 0 (omega arith), e, coefficient-tabulate c (cutProductAt p u v) (k - a) (omega arith))
+    rw (i, ← getD-drop, ← getD-take c (drop a r) (k - a) 0 (omega arith), e, coefficient-tabulate c (cutProductAt p u v) (k - a) (omega arith))
     (mod-lt _ positive)
 
-module _ {p n : ℕ} {x y z x₁ y₁ z₁ x₂ y₂ z₂ x₃ y₃ z₃ : List ℕ} (room : Room p n x y z) (size : length z₃ ≡ length z)
-    (evens : Third p n 0 (n - n / 2) n x x₁ y y₁ z z₁)
-    (odds : Third p n 1 (n / 2) (n + (n - n / 2)) x₁ x₂ y₁ y₂ z₁ z₂)
-    (sums : Third p n 2 (n / 2) (2 * n) x₂ x₃ y₂ y₃ z₂ z₃) where
-  even-product : take (n - n / 2) (drop n z₃) ≡ cutProduct p (n - n / 2) (part p n 0 (n - n / 2) x) (part p n 0 (n - n / 2) y)
+module _ {p n : ℕ} {x u y v z r x₁ y₁ r₁ x₂ y₂ r₂ x₃ y₃ r₃ : List ℕ} (room : Room p n x u y v z r) (size : length r₃ ≡ length r)
+    (evens : Third p n 0 (n - n / 2) 0 x x₁ y y₁ r r₁)
+    (odds : Third p n 1 (n / 2) (n - n / 2) x₁ x₂ y₁ y₂ r₁ r₂)
+    (sums : Third p n 2 (n / 2) n x₂ x₃ y₂ y₃ r₂ r₃) where
+  even-product : take (n - n / 2) r₃ ≡ cutProduct p (n - n / 2) (part p n 0 (n - n / 2) x) (part p n 0 (n - n / 2) y)
   even-product =
-      segment-kept n (n - n / 2) (2 * n) z₂ z₃ (sums .before) (omega arith)
-      ∙ segment-kept n (n - n / 2) (n + (n - n / 2)) z₁ z₂ (odds .before) (omega arith)
+      segment-kept 0 (n - n / 2) n r₂ r₃ (sums .before) (omega arith)
+      ∙ segment-kept 0 (n - n / 2) (n - n / 2) r₁ r₂ (odds .before) (omega arith)
       ∙ evens .product
 
-  odd-product : take (n / 2) (drop (n + (n - n / 2)) z₃) ≡ cutProduct p (n / 2) (part p n 1 (n / 2) x) (part p n 1 (n / 2) y)
+  odd-product : take (n / 2) (drop (n - n / 2) r₃) ≡ cutProduct p (n / 2) (part p n 1 (n / 2) x) (part p n 1 (n / 2) y)
   odd-product =
-      segment-kept (n + (n - n / 2)) (n / 2) (2 * n) z₂ z₃ (sums .before) (omega arith)
+      segment-kept (n - n / 2) (n / 2) n r₂ r₃ (sums .before) (omega arith)
       ∙ odds .product ∙ rw (evens .left, evens .right)
 
-  sum-product : take (n / 2) (drop (2 * n) z₃) ≡ cutProduct p (n / 2) (part p n 2 (n / 2) x) (part p n 2 (n / 2) y)
+  sum-product : take (n / 2) (drop n r₃) ≡ cutProduct p (n / 2) (part p n 2 (n / 2) x) (part p n 2 (n / 2) y)
   sum-product = sums .product ∙ rw (odds .left, evens .left, odds .right, evens .right)
 
-  pub thirds-woven : Woven p n z₃
-  thirds-woven = record {
-    modulus = room .modulus;
-    size = omega (arith, room .target);
-    small = λ k h g. at k h g (decLt k (n + (n - n / 2))) (decLt k (2 * n));
-  }
-    where
-      at : (k : ℕ) → n ≤ k → k < 2 * n + n / 2 → Dec (k < n + (n - n / 2)) → Dec (k < 2 * n) → coefficient z₃ k < p
-      at k h g (yes e) d = product-residue n (n - n / 2) z₃ _ _ (room .modulus) even-product k h e
-      at k h g (no e) (yes d) = product-residue (n + (n - n / 2)) (n / 2) z₃ _ _ (room .modulus) odd-product k (omega arith) (omega arith)
-      at k h g (no e) (no d) = product-residue (2 * n) (n / 2) z₃ _ _ (room .modulus) sum-product k (omega arith) g
+  module _ (z₃ : List ℕ) (size-z : length z₃ ≡ length z) where
+    pub thirds-woven : Woven p n r₃ z₃
+    thirds-woven = record {
+      modulus = room .modulus;
+      source = omega (arith, room .products);
+      target = omega (arith, room .target);
+      small = λ k h. at k h (decLt k (n - n / 2)) (decLt k n);
+    }
+      where
+        at : (k : ℕ) → k < n + n / 2 → Dec (k < n - n / 2) → Dec (k < n) → coefficient r₃ k < p
+        at k h (yes e) d = product-residue 0 (n - n / 2) r₃ _ _ (room .modulus) even-product k (omega arith) (omega arith)
+        at k h (no e) (yes d) = product-residue (n - n / 2) (n / 2) r₃ _ _ (room .modulus) odd-product k (omega arith) (omega arith)
+        at k h (no e) (no d) = product-residue n (n / 2) r₃ _ _ (room .modulus) sum-product k (omega arith) h
 
-  pub thirds-product : {after : List ℕ} → after ≡ sets z₃ 0 (tabulate n (woven p n z₃)) → take n after ≡ cutProduct p n x y
-  thirds-product woven-after =
-      front-sets n z₃ (tabulate n (woven p n z₃)) woven-after (length-tabulate n _) (omega (arith, room .target))
-      ∙ rule (room .modulus) n x y z₃ even-product odd-product sum-product
+    pub thirds-product : {after : List ℕ} → after ≡ sets z₃ 0 (tabulate n (woven p n r₃)) → take n after ≡ cutProduct p n x y
+    thirds-product woven-after =
+        front-sets n z₃ (tabulate n (woven p n r₃)) woven-after (length-tabulate n _) (omega (arith, room .target))
+        ∙ rule (room .modulus) n x y r₃ even-product odd-product sum-product

@@ -19,44 +19,44 @@ fn cross(p: u32, m: u32, e: u32, o: u32) -> u32
     residue::difference(p, residue::difference(p, m, e), o)
 }
 
-// The `count` places from n on become the places `from`, `from` + 2 and so on of the first n.
-fn every_second(n: usize, from: usize, count: usize, x: &mut [u32])
-    requires { ⌜ (from + 2 * count ≤ n + 1) × (n + count ≤ length (now x)) ⌝ }
-    ensures { λ _. ⌜ now (x .exit) ≡ sets (now (x .entry)) n (tabulate count (second from (take n (now (x .entry))))) ⌝ }
+// The first `count` places of u become the places `from`, `from` + 2 and so on of the first n of x.
+fn every_second(n: usize, from: usize, count: usize, x: &[u32], u: &mut [u32])
+    requires { ⌜ (from + 2 * count ≤ n + 1) × (n ≤ length (now x)) × (count ≤ length (now u)) ⌝ }
+    ensures { λ _. ⌜ now (u .exit) ≡ sets (now (u .entry)) 0 (tabulate count (second from (take n (now (x .entry))))) ⌝ }
 {
     let mut i = 0;
     while i < count {
-        x[n + i] = x[2 * i + from];
+        u[i] = x[2 * i + from];
         i += 1;
     }
 }
 
-// The `count` places from n on become the sums of neighbours among the first n.
-fn pair_sums(p: u32, n: usize, count: usize, x: &mut [u32])
-    requires { ⌜ (2 * count ≤ n) × (n + count ≤ length (now x)) × Residues p n (now x) ⌝ }
-    ensures { λ _. ⌜ now (x .exit) ≡ sets (now (x .entry)) n (tabulate count (neighbourSum p (take n (now (x .entry))))) ⌝ }
+// The first `count` places of u become the sums of neighbours among the first n of x.
+fn pair_sums(p: u32, n: usize, count: usize, x: &[u32], u: &mut [u32])
+    requires { ⌜ (2 * count ≤ n) × (n ≤ length (now x)) × (count ≤ length (now u)) × Residues p n (now x) ⌝ }
+    ensures { λ _. ⌜ now (u .exit) ≡ sets (now (u .entry)) 0 (tabulate count (neighbourSum p (take n (now (x .entry))))) ⌝ }
 {
     let mut i = 0;
     while i < count {
-        x[n + i] = residue::sum(p, x[2 * i], x[2 * i + 1]);
+        u[i] = residue::sum(p, x[2 * i], x[2 * i + 1]);
         i += 1;
     }
 }
 
-// The first n places become the product: those of its parts stand from n on, the even one, the odd one and that of the sums.
-fn weave(p: u32, n: usize, z: &mut [u32])
-    requires { ⌜ Woven p n (now z) ⌝ }
-    ensures { λ _. ⌜ now (z .exit) ≡ sets (now (z .entry)) 0 (tabulate n (woven p n (now (z .entry)))) ⌝ }
+// The first n places of z become the product: r holds those of its parts, the even one, the odd one from the middle of n on and that of the
+// sums from n on.
+fn weave(p: u32, n: usize, r: &[u32], z: &mut [u32])
+    requires { ⌜ Woven p n (now r) (now z) ⌝ }
+    ensures { λ _. ⌜ now (z .exit) ≡ sets (now (z .entry)) 0 (tabulate n (woven p n (now (r .entry)))) ⌝ }
 {
     let half = n / 2;
-    let odd = n + (n - half);
-    let sums = 2 * n;
+    let rounded = n - half;
     let mut before = 0;
     let mut i = 0;
     while i < half {
-        let e = z[n + i];
-        let o = z[odd + i];
-        let m = z[sums + i];
+        let e = r[i];
+        let o = r[rounded + i];
+        let m = r[n + i];
         let even = residue::sum(p, e, before);
         let cross = cross(p, m, e, o);
         z[2 * i] = even;
@@ -65,45 +65,67 @@ fn weave(p: u32, n: usize, z: &mut [u32])
         i += 1;
     }
     if 2 * half < n {
-        z[2 * half] = residue::sum(p, z[n + half], before);
+        z[2 * half] = residue::sum(p, r[half], before);
     }
 }
 
-// The `count` places from n on become a part of the first n: the even places (0), the odd places (1), or the sums of neighbours (2).
-fn part(p: u32, n: usize, which: usize, count: usize, x: &mut [u32])
-    requires { ⌜ (2 * count ≤ n + (1 - which)) × (n + count ≤ length (now x)) × Residues p n (now x) ⌝ }
-    ensures { λ _. ⌜ now (x .exit) ≡ sets (now (x .entry)) n (part p n which count (now (x .entry))) ⌝ }
+// The first `count` places of u become a part of the first n of x: the even places (0), the odd places (1), or the sums of neighbours (2).
+fn part(p: u32, n: usize, which: usize, count: usize, x: &[u32], u: &mut [u32])
+    requires { ⌜ (2 * count ≤ n + (1 - which)) × (n ≤ length (now x)) × (count ≤ length (now u)) × Residues p n (now x) ⌝ }
+    ensures { λ _. ⌜ now (u .exit) ≡ sets (now (u .entry)) 0 (part p n which count (now (x .entry))) ⌝ }
 {
     if which < 2 {
-        every_second(n, which, count, x);
+        every_second(n, which, count, x, u);
     } else {
-        pair_sums(p, n, count, x);
+        pair_sums(p, n, count, x, u);
     }
 }
 
-// The `count` places of z from t on become the product of such parts of x and of y.
+// The `count` places of r from t on become the product of such parts of x and of y, which are made in u and v. What lies behind the first n
+// places of x, y and z is room.
 fn third(
     p: u32,
     n: usize,
     which: usize,
     count: usize,
     x: &mut [u32],
+    u: &mut [u32],
     y: &mut [u32],
+    v: &mut [u32],
     z: &mut [u32],
+    r: &mut [u32],
     t: usize,
 )
-    requires { ⌜ ThirdRoom p n which count t (now x) (now y) (now z) ⌝ }
-    ensures { λ _. ⌜ Third p n which count t (now (x .entry)) (now (x .exit)) (now (y .entry)) (now (y .exit)) (now (z .entry)) (now (z .exit)) ⌝ }
+    requires { ⌜ ThirdRoom p n which count t (now x) (now u) (now y) (now v) (now z) (now r) ⌝ }
+    ensures { λ _. ⌜ Third p n which count t (now (x .entry)) (now (x .exit)) (now (y .entry)) (now (y .exit)) (now (r .entry)) (now (r .exit)) ⌝ }
 {
-    part(p, n, which, count, x);
-    part(p, n, which, count, y);
-    cut_product(p, count, &mut x[n..], &mut y[n..], &mut z[t..]);
+    part(p, n, which, count, x, u);
+    part(p, n, which, count, y, v);
+    cut_product(
+        p,
+        count,
+        u,
+        &mut x[n..],
+        v,
+        &mut y[n..],
+        &mut r[t..],
+        &mut z[n..],
+    );
 }
 
-// The first n places of z become the product of the first n places of x and of y modulo p, cut to n places. What lies behind them in the
-// three lists is room.
-pub fn cut_product(p: u32, n: usize, x: &mut [u32], y: &mut [u32], z: &mut [u32])
-    requires { ⌜ Room p n (now x) (now y) (now z) ⌝ }
+// The first n places of z become the product of the first n places of x and of y modulo p, cut to n places. What lies behind them in these
+// three lists and all of u, v and r is room. A loop reads one list and writes another, which compilers make faster.
+pub fn cut_product(
+    p: u32,
+    n: usize,
+    x: &mut [u32],
+    u: &mut [u32],
+    y: &mut [u32],
+    v: &mut [u32],
+    z: &mut [u32],
+    r: &mut [u32],
+)
+    requires { ⌜ Room p n (now x) (now u) (now y) (now v) (now z) (now r) ⌝ }
     ensures { λ _. ⌜ take n (now (z .exit)) ≡ cutProduct p n (now (x .entry)) (now (y .entry)) ⌝ }
 {
     if n <= 128 {
@@ -112,8 +134,8 @@ pub fn cut_product(p: u32, n: usize, x: &mut [u32], y: &mut [u32], z: &mut [u32]
     }
     let half = n / 2;
     let rounded = n - half;
-    third(p, n, 0, rounded, x, y, z, n);
-    third(p, n, 1, half, x, y, z, n + rounded);
-    third(p, n, 2, half, x, y, z, 2 * n);
-    weave(p, n, z);
+    third(p, n, 0, rounded, x, u, y, v, z, r, 0);
+    third(p, n, 1, half, x, u, y, v, z, r, rounded);
+    third(p, n, 2, half, x, u, y, v, z, r, n);
+    weave(p, n, r, z);
 }

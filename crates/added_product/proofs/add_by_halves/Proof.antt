@@ -49,36 +49,39 @@ load-requires-2 c κs = search needs
 
 cut-product-requires : tie.Need-cut-product-requires
 cut-product-requires c κs =
-    let start = c .before .before .before .before .before .before .before .before .before .before .before .before .before .before .before .before .before .before .before in
-    let first = c .before .before .before .before .before .before .before .before .before .before .before in
-    let second = c .before .before .before .before .before in
+    let start = c .before .before .before .before .before .before .before .before .before .before .before .before .before .before .before .before .before .before .before .before .before .before .before .before .before in
+    let first = c .before .before .before .before .before .before .before .before .before .before .before .before .before .before in
+    let second = c .before .before .before .before .before .before .before .before in
     record {
       modulus = start .pre .0 .modulus;
-      left = omega (arith, first .load .kept .1 .1 .1 .0, start .pre .1);
-      right = omega (arith, second .load2 .kept .1 .1 .1 .0, start .pre .2);
-      target = start .pre .3;
-      left-residues = loaded-residues (start .pre .0 .modulus) _ _ _ (first .load .ensures) (omega (arith, start .pre .1));
-      right-residues = loaded-residues (start .pre .0 .modulus) _ _ _ (second .load2 .ensures) (omega (arith, start .pre .2));
+      left = omega (arith, first .load .kept .1 .1 .1 .0, start .pre .1 .left);
+      left-parts = start .pre .1 .left-parts;
+      right = omega (arith, second .load2 .kept .1 .1 .1 .0, start .pre .1 .right);
+      right-parts = start .pre .1 .right-parts;
+      target = start .pre .1 .target;
+      products = start .pre .1 .products;
+      left-residues = loaded-residues (start .pre .0 .modulus) _ _ _ (first .load .ensures) (omega (arith, start .pre .1 .left));
+      right-residues = loaded-residues (start .pre .0 .modulus) _ _ _ (second .load2 .ensures) (omega (arith, start .pre .1 .right));
     }
 
 abbrev start : tie.After-cut-product → tie.Start
-start c = c .before .before .before .before .before .before .before .before .before .before .before .before .before .before .before .before .before .before .before .before
+start c = c .before .before .before .before .before .before .before .before .before .before .before .before .before .before .before .before .before .before .before .before .before .before .before .before .before .before
 
 product : (c : tie.After-cut-product)
-    → take (start c .args .n) (c .cut-product .last .1 .1 .1 .1 .0)
+    → take (start c .args .n) (c .cut-product .last .1 .1 .1 .1 .1 .1 .0)
     ≡ cutProduct (start c .args .p) (start c .args .n) (take (start c .args .n) (drop (start c .args .a) (start c .args .w .now)))
     (take (start c .args .n) (drop (start c .args .b) (start c .args .w .now)))
 product c =
     c .cut-product .ensures
-    ∙ loaded-product (start c .pre .0 .modulus) _ _ _ _ _ (simp add-sub-cancel-left at (c .before .before .before .before .before .before .before .before .before .before .before .before .load .ensures)) (omega (arith, start c .pre .1))
-    (simp add-sub-cancel-left at (c .before .before .before .before .before .before .load2 .ensures)) (omega (arith, start c .pre .2))
+    ∙ loaded-product (start c .pre .0 .modulus) _ _ _ _ _ (simp add-sub-cancel-left at (c .before .before .before .before .before .before .before .before .before .before .before .before .before .before .before .load .ensures)) (omega (arith, start c .pre .1 .left))
+    (simp add-sub-cancel-left at (c .before .before .before .before .before .before .before .before .before .load2 .ensures)) (omega (arith, start c .pre .1 .right))
 
 add-places-requires : tie.Need-add-places-requires
 add-places-requires c κs =
-    let made = c .before .before .before .before .before .before .before .before in
+    let made = c .before .before .before .before .before .before .before .before .before .before .before .before .before .before in
     let given = start made .pre in (
       given .0 .modulus,
-      omega (arith, made .cut-product .kept .1 .1 .1 .1 .0, given .3),
+      omega (arith, made .cut-product .kept .1 .1 .1 .1 .1 .1 .0, given .1 .target),
       residues-product (given .0 .modulus) _ _ _ _ (product made),
       given .0 .target,
     )
@@ -95,9 +98,18 @@ same-length-3 c = search needs
 same-length-4 : tie.Need-same-length-4
 same-length-4 c = search needs
 
+same-length-5 : tie.Need-same-length-5
+same-length-5 c = search needs
+
+same-length-6 : tie.Need-same-length-6
+same-length-6 c = search needs
+
+same-length-7 : tie.Need-same-length-7
+same-length-7 c = search needs
+
 returns : tie.Need-returns
 returns c =
-    let made = c .before .before .before .before .before .before .before .before .before .before .before in
+    let made = c .before .before .before .before .before .before .before .before .before .before .before .before .before .before .before .before .before in
     record { written = c .before .before .add-places .ensures ∙ ap (sets _ _) (added-joined (start made .pre .0 .modulus) _ _ _ _ (product made) _ _) }
 
 pub add-by-halves-spec : {M : Type 1} → statement M
@@ -122,4 +134,7 @@ add-by-halves-spec =
     same-length-2
     same-length-3
     same-length-4
+    same-length-5
+    same-length-6
+    same-length-7
     returns)

@@ -23,25 +23,25 @@ use Rattle.karatsuba.proofs.weave.Reads as weave-reads
 use Rattle.karatsuba.proofs.+cut_product+third.{statement}
 use Rattle.karatsuba.proofs.+cut_product+third.Tie.{close}
 
-abbrev μ-cut-product : Measures 3 cut-product-kinds.ps ℕ
+abbrev μ-cut-product : Measures 6 cut-product-kinds.ps ℕ
 μ-cut-product κs a = 2 * a .1 .0
 
-abbrev μ-third : Measures 3 third-kinds.ps ℕ
+abbrev μ-third : Measures 6 third-kinds.ps ℕ
 μ-third κs a = 2 * a .1 .1 .1 .0 + 1
 
-abbrev cut-product-at : ℕ → In 3 cut-product-kinds.ps
+abbrev cut-product-at : ℕ → In 6 cut-product-kinds.ps
 cut-product-at t =
-    and 3 cut-product-kinds.ps (is 3 cut-product-kinds.ps μ-cut-product t) cut-product.Pre
+    and 6 cut-product-kinds.ps (is 6 cut-product-kinds.ps μ-cut-product t) cut-product.Pre
 
-abbrev cut-product-below : ℕ → In 3 cut-product-kinds.ps
+abbrev cut-product-below : ℕ → In 6 cut-product-kinds.ps
 cut-product-below t =
-    and 3 cut-product-kinds.ps (falls 3 cut-product-kinds.ps _<_ μ-cut-product t) cut-product.Pre
+    and 6 cut-product-kinds.ps (falls 6 cut-product-kinds.ps _<_ μ-cut-product t) cut-product.Pre
 
-abbrev third-at : ℕ → In 3 third-kinds.ps
-third-at t = and 3 third-kinds.ps (is 3 third-kinds.ps μ-third t) third.Pre
+abbrev third-at : ℕ → In 6 third-kinds.ps
+third-at t = and 6 third-kinds.ps (is 6 third-kinds.ps μ-third t) third.Pre
 
-abbrev third-below : ℕ → In 3 third-kinds.ps
-third-below t = and 3 third-kinds.ps (falls 3 third-kinds.ps _<_ μ-third t) third.Pre
+abbrev third-below : ℕ → In 6 third-kinds.ps
+third-below t = and 6 third-kinds.ps (falls 6 third-kinds.ps _<_ μ-third t) third.Pre
 
 abbrev cut-product-claims : ℕ → cut-product-lts.Claims
 cut-product-claims t = (
@@ -77,8 +77,7 @@ module _ (t : ℕ) where
   cut-product-returns : cut-product-lts.Need-returns (cut-product-claims t) (cut-product-at t) cut-product.Post
   unfolding cutProduct
   cut-product-returns c =
-      let start = c .before .before .before .before .before .before .before .before .before .before in
-      let given = start .args in
+      let given = c .before .before .before .before .before .before .before .before .before .before .before .before .before .args in
       front-sets (given .n) (given .z .now) (cutProduct (given .p) (given .n) (given .x .now) (given .y .now))
       (c .before .before .cut-product .ensures) (length-tabulate _ _) (omega arith)
 
@@ -87,55 +86,94 @@ module _ (t : ℕ) where
 
   cut-product-third-requires : cut-product-lts.Need-third-requires (cut-product-claims t) (cut-product-at t) cut-product.Post
   cut-product-third-requires c κs =
-      (omega arith, third-room (c .before .before .before .before .before .before .before .pre .1) (omega arith) (omega arith) (omega arith) refl refl refl refl refl)
-
-  cut-product-add-third : cut-product-lts.Need-add-third (cut-product-claims t) (cut-product-at t) cut-product.Post
-  cut-product-add-third c = omega arith
+      let long = c .before .before .before .before .before .before in
+      (omega (arith, long .before .before .before .before .before .before .before .pre .0, long .if1 .left), third-room (long .before .before .before .before .before .before .before .pre .1) (omega (arith, long .if1 .left)) (omega (arith, long .if1 .left)) (omega (arith, long .if1 .left)) refl refl refl refl refl refl refl refl)
 
   cut-product-third-requires-2 : cut-product-lts.Need-third-requires-2 (cut-product-claims t) (cut-product-at t) cut-product.Post
   cut-product-third-requires-2 c κs =
-      let evens = c .before .before .before .before .before .before .before .before .before in (
-        omega arith,
-        third-room (evens .before .before .before .before .before .before .before .before .pre .1) (omega arith) (omega arith) (omega arith) (omega arith) (omega arith) (omega arith)
+      let evens = c .before .before .before .before .before .before .before .before .before .before .before .before .before .before .before .before .before .before in
+      let long = evens .before .before .before .before .before .before .before in (
+        omega (arith, long .before .before .before .before .before .before .before .pre .0, long .if1 .left),
+        third-room (long .before .before .before .before .before .before .before .pre .1) (omega (arith, long .if1 .left)) (omega (arith, long .if1 .left)) (omega (arith, long .if1 .left))
+            (evens .third .kept .1 .1 .1 .1 .0) (evens .third .kept .1 .1 .1 .1 .1 .0) (evens .third .kept .1 .1 .1 .1 .1 .1 .0) (evens .third .kept .1 .1 .1 .1 .1 .1 .1 .0) (evens .third .kept .1 .1 .1 .1 .1 .1 .1 .1 .0) (evens .third .kept .1 .1 .1 .1 .1 .1 .1 .1 .1 .0)
             (evens .third .ensures .left) (evens .third .ensures .right),
       )
 
-  cut-product-mul-third : cut-product-lts.Need-mul-third (cut-product-claims t) (cut-product-at t) cut-product.Post
-  cut-product-mul-third c = omega arith
-
   cut-product-third-requires-3 : cut-product-lts.Need-third-requires-3 (cut-product-claims t) (cut-product-at t) cut-product.Post
   cut-product-third-requires-3 c κs =
-      let odds = c .before .before .before .before .before .before .before .before .before in
-      let evens = odds .before .before .before .before .before .before .before .before .before .before in (
-        omega arith,
-        third-room (evens .before .before .before .before .before .before .before .before .pre .1) (omega arith) (omega arith) (omega arith) (omega arith) (omega arith) (omega arith)
+      let odds = c .before .before .before .before .before .before .before .before .before .before .before .before .before .before .before .before .before .before in
+      let evens = odds .before .before .before .before .before .before .before .before .before .before .before .before .before .before .before .before .before .before .before in
+      let long = evens .before .before .before .before .before .before .before in (
+        omega (arith, long .before .before .before .before .before .before .before .pre .0, long .if1 .left),
+        third-room (long .before .before .before .before .before .before .before .pre .1) (omega (arith, long .if1 .left)) (omega (arith, long .if1 .left)) (omega (arith, long .if1 .left))
+            (omega (arith, odds .third2 .kept .1 .1 .1 .1 .0, evens .third .kept .1 .1 .1 .1 .0))
+            (omega (arith, odds .third2 .kept .1 .1 .1 .1 .1 .0, evens .third .kept .1 .1 .1 .1 .1 .0))
+            (omega (arith, odds .third2 .kept .1 .1 .1 .1 .1 .1 .0, evens .third .kept .1 .1 .1 .1 .1 .1 .0))
+            (omega (arith, odds .third2 .kept .1 .1 .1 .1 .1 .1 .1 .0, evens .third .kept .1 .1 .1 .1 .1 .1 .1 .0))
+            (omega (arith, odds .third2 .kept .1 .1 .1 .1 .1 .1 .1 .1 .0, evens .third .kept .1 .1 .1 .1 .1 .1 .1 .1 .0))
+            (omega (arith, odds .third2 .kept .1 .1 .1 .1 .1 .1 .1 .1 .1 .0, evens .third .kept .1 .1 .1 .1 .1 .1 .1 .1 .1 .0))
             (odds .third2 .ensures .left ∙ evens .third .ensures .left) (odds .third2 .ensures .right ∙ evens .third .ensures .right),
       )
 
   cut-product-weave-requires : cut-product-lts.Need-weave-requires (cut-product-claims t) (cut-product-at t) cut-product.Post
   cut-product-weave-requires c κs =
-      let sums = c .before .before .before .before .before .before .before in
-      let odds = sums .before .before .before .before .before .before .before .before .before .before in
-      let evens = odds .before .before .before .before .before .before .before .before .before .before in
-      thirds-woven (evens .before .before .before .before .before .before .before .before .pre .1) (omega arith) (evens .third .ensures) (odds .third2 .ensures) (sums .third3 .ensures)
+      let sums = c .before .before .before .before .before .before .before .before .before .before .before .before .before .before in
+      let odds = sums .before .before .before .before .before .before .before .before .before .before .before .before .before .before .before .before .before .before .before in
+      let evens = odds .before .before .before .before .before .before .before .before .before .before .before .before .before .before .before .before .before .before .before in
+      thirds-woven (evens .before .before .before .before .before .before .before .before .before .before .before .before .before .before .pre .1) (omega (arith, sums .third3 .kept .1 .1 .1 .1 .1 .1 .1 .1 .1 .0, odds .third2 .kept .1 .1 .1 .1 .1 .1 .1 .1 .1 .0, evens .third .kept .1 .1 .1 .1 .1 .1 .1 .1 .1 .0)) (evens .third .ensures) (odds .third2 .ensures) (sums .third3 .ensures)
+      _ (omega (arith, sums .third3 .kept .1 .1 .1 .1 .1 .1 .1 .1 .0, odds .third2 .kept .1 .1 .1 .1 .1 .1 .1 .1 .0, evens .third .kept .1 .1 .1 .1 .1 .1 .1 .1 .0))
 
   cut-product-same-length-4 : cut-product-lts.Need-same-length-4 (cut-product-claims t) (cut-product-at t) cut-product.Post
-  cut-product-same-length-4 c = omega arith
+  cut-product-same-length-4 c =
+      let sums = c .before .before .before .before .before .before .before .before .before .before .before .before .before .before .before .before .before in
+      let odds = sums .before .before .before .before .before .before .before .before .before .before .before .before .before .before .before .before .before .before .before in
+      let evens = odds .before .before .before .before .before .before .before .before .before .before .before .before .before .before .before .before .before .before .before in
+      omega (arith, sums .third3 .kept .1 .1 .1 .1 .0, odds .third2 .kept .1 .1 .1 .1 .0, evens .third .kept .1 .1 .1 .1 .0)
 
   cut-product-same-length-5 : cut-product-lts.Need-same-length-5 (cut-product-claims t) (cut-product-at t) cut-product.Post
-  cut-product-same-length-5 c = omega arith
+  cut-product-same-length-5 c =
+      let sums = c .before .before .before .before .before .before .before .before .before .before .before .before .before .before .before .before .before in
+      let odds = sums .before .before .before .before .before .before .before .before .before .before .before .before .before .before .before .before .before .before .before in
+      let evens = odds .before .before .before .before .before .before .before .before .before .before .before .before .before .before .before .before .before .before .before in
+      omega (arith, sums .third3 .kept .1 .1 .1 .1 .1 .0, odds .third2 .kept .1 .1 .1 .1 .1 .0, evens .third .kept .1 .1 .1 .1 .1 .0)
 
   cut-product-same-length-6 : cut-product-lts.Need-same-length-6 (cut-product-claims t) (cut-product-at t) cut-product.Post
-  cut-product-same-length-6 c = omega arith
+  cut-product-same-length-6 c =
+      let sums = c .before .before .before .before .before .before .before .before .before .before .before .before .before .before .before .before .before in
+      let odds = sums .before .before .before .before .before .before .before .before .before .before .before .before .before .before .before .before .before .before .before in
+      let evens = odds .before .before .before .before .before .before .before .before .before .before .before .before .before .before .before .before .before .before .before in
+      omega (arith, sums .third3 .kept .1 .1 .1 .1 .1 .1 .0, odds .third2 .kept .1 .1 .1 .1 .1 .1 .0, evens .third .kept .1 .1 .1 .1 .1 .1 .0)
+
+  cut-product-same-length-7 : cut-product-lts.Need-same-length-7 (cut-product-claims t) (cut-product-at t) cut-product.Post
+  cut-product-same-length-7 c =
+      let sums = c .before .before .before .before .before .before .before .before .before .before .before .before .before .before .before .before .before in
+      let odds = sums .before .before .before .before .before .before .before .before .before .before .before .before .before .before .before .before .before .before .before in
+      let evens = odds .before .before .before .before .before .before .before .before .before .before .before .before .before .before .before .before .before .before .before in
+      omega (arith, sums .third3 .kept .1 .1 .1 .1 .1 .1 .1 .0, odds .third2 .kept .1 .1 .1 .1 .1 .1 .1 .0, evens .third .kept .1 .1 .1 .1 .1 .1 .1 .0)
+
+  cut-product-same-length-8 : cut-product-lts.Need-same-length-8 (cut-product-claims t) (cut-product-at t) cut-product.Post
+  cut-product-same-length-8 c =
+      let weaved = c .before .before in
+      let sums = weaved .before .before .before .before .before .before .before .before .before .before .before .before .before .before .before in
+      let odds = sums .before .before .before .before .before .before .before .before .before .before .before .before .before .before .before .before .before .before .before in
+      let evens = odds .before .before .before .before .before .before .before .before .before .before .before .before .before .before .before .before .before .before .before in
+      omega (arith, weaved .weave .kept .1 .1 .1 .0, sums .third3 .kept .1 .1 .1 .1 .1 .1 .1 .1 .0, odds .third2 .kept .1 .1 .1 .1 .1 .1 .1 .1 .0, evens .third .kept .1 .1 .1 .1 .1 .1 .1 .1 .0)
+
+  cut-product-same-length-9 : cut-product-lts.Need-same-length-9 (cut-product-claims t) (cut-product-at t) cut-product.Post
+  cut-product-same-length-9 c =
+      let sums = c .before .before .before .before .before .before .before .before .before .before .before .before .before .before .before .before .before in
+      let odds = sums .before .before .before .before .before .before .before .before .before .before .before .before .before .before .before .before .before .before .before in
+      let evens = odds .before .before .before .before .before .before .before .before .before .before .before .before .before .before .before .before .before .before .before in
+      omega (arith, sums .third3 .kept .1 .1 .1 .1 .1 .1 .1 .1 .1 .0, odds .third2 .kept .1 .1 .1 .1 .1 .1 .1 .1 .1 .0, evens .third .kept .1 .1 .1 .1 .1 .1 .1 .1 .1 .0)
 
   cut-product-returns-2 : cut-product-lts.Need-returns-2 (cut-product-claims t) (cut-product-at t) cut-product.Post
   cut-product-returns-2 c =
       let weaved = c .before .before in
-      let sums = weaved .before .before .before .before .before .before .before .before in
-      let odds = sums .before .before .before .before .before .before .before .before .before .before in
-      let evens = odds .before .before .before .before .before .before .before .before .before .before in
-      thirds-product (evens .before .before .before .before .before .before .before .before .pre .1) (omega arith) (evens .third .ensures) (odds .third2 .ensures) (sums .third3 .ensures)
-      (weaved .weave .ensures)
+      let sums = weaved .before .before .before .before .before .before .before .before .before .before .before .before .before .before .before in
+      let odds = sums .before .before .before .before .before .before .before .before .before .before .before .before .before .before .before .before .before .before .before in
+      let evens = odds .before .before .before .before .before .before .before .before .before .before .before .before .before .before .before .before .before .before .before in
+      thirds-product (evens .before .before .before .before .before .before .before .before .before .before .before .before .before .before .pre .1) (omega (arith, sums .third3 .kept .1 .1 .1 .1 .1 .1 .1 .1 .1 .0, odds .third2 .kept .1 .1 .1 .1 .1 .1 .1 .1 .1 .0, evens .third .kept .1 .1 .1 .1 .1 .1 .1 .1 .1 .0)) (evens .third .ensures) (odds .third2 .ensures) (sums .third3 .ensures)
+      _ (omega (arith, sums .third3 .kept .1 .1 .1 .1 .1 .1 .1 .1 .0, odds .third2 .kept .1 .1 .1 .1 .1 .1 .1 .1 .0, evens .third .kept .1 .1 .1 .1 .1 .1 .1 .1 .0)) (weaved .weave .ensures)
 
   third-part-requires : third-lts.Need-part-requires (third-claims t) (third-at t) third.Post
   third-part-requires c κs = search needs
@@ -179,11 +217,24 @@ module _ (t : ℕ) where
   third-part-cut-product-end-3 : third-lts.Need-part-cut-product-end-3 (third-claims t) (third-at t) third.Post
   third-part-cut-product-end-3 c = omega arith
 
+  third-mul-cut-product-4 : third-lts.Need-mul-cut-product-4 (third-claims t) (third-at t) third.Post
+  third-mul-cut-product-4 c = omega arith
+
+  third-sub-cut-product-4 : third-lts.Need-sub-cut-product-4 (third-claims t) (third-at t) third.Post
+  third-sub-cut-product-4 c = omega arith
+
+  third-part-cut-product-start-4 : third-lts.Need-part-cut-product-start-4 (third-claims t) (third-at t) third.Post
+  third-part-cut-product-start-4 c = omega arith
+
+  third-part-cut-product-end-4 : third-lts.Need-part-cut-product-end-4 (third-claims t) (third-at t) third.Post
+  third-part-cut-product-end-4 c = omega arith
+
   third-cut-product-requires : third-lts.Need-cut-product-requires (third-claims t) (third-at t) third.Post
   third-cut-product-requires c κs =
-      let right = c .before .before .before .before .before in
-      let left = right .before .before .before .before in
-      (omega arith, part-room (left .before .before .before .before .before .pre .1) (left .part .ensures) (right .part2 .ensures))
+      let right = c .before .before .before .before .before .before .before .before in
+      let left = right .before .before .before .before .before in
+      let start = left .before .before .before .before .before .before .before .before .before in
+      (omega (arith, start .pre .0), part-room (start .pre .1) (left .part .ensures) (right .part2 .ensures))
 
   third-same-length : third-lts.Need-same-length (third-claims t) (third-at t) third.Post
   third-same-length c = omega arith
@@ -194,13 +245,22 @@ module _ (t : ℕ) where
   third-same-length-3 : third-lts.Need-same-length-3 (third-claims t) (third-at t) third.Post
   third-same-length-3 c = omega arith
 
+  third-same-length-4 : third-lts.Need-same-length-4 (third-claims t) (third-at t) third.Post
+  third-same-length-4 c = omega arith
+
+  third-same-length-5 : third-lts.Need-same-length-5 (third-claims t) (third-at t) third.Post
+  third-same-length-5 c = omega arith
+
+  third-same-length-6 : third-lts.Need-same-length-6 (third-claims t) (third-at t) third.Post
+  third-same-length-6 c = omega arith
+
   third-returns : third-lts.Need-returns (third-claims t) (third-at t) third.Post
   third-returns c =
-      let done = c .before .before .before .before .before .before in
-      let right = done .before .before .before .before .before .before in
-      let left = right .before .before .before .before in
-      third-done (left .before .before .before .before .before .pre .1) (left .part .ensures) (right .part2 .ensures)
-      (done .cut-product .last .1 .1 .0) (done .cut-product .last .1 .1 .1 .0) (done .cut-product .last .1 .1 .1 .1 .0)
+      let done = c .before .before .before .before .before .before .before .before .before .before .before .before in
+      let right = done .before .before .before .before .before .before .before .before .before in
+      let left = right .before .before .before .before .before in
+      third-done (left .before .before .before .before .before .before .before .before .before .pre .1) (left .part .ensures) (right .part2 .ensures)
+      (done .cut-product .last .1 .1 .1 .0) (done .cut-product .last .1 .1 .1 .1 .1 .0) (done .cut-product .last .1 .1 .1 .1 .1 .1 .0)
       (omega arith) (done .cut-product .ensures)
 
 pub +cut-product+third-spec : {M : Type 1} → statement M
@@ -214,17 +274,18 @@ pub +cut-product+third-spec : {M : Type 1} → statement M
     (cut-product-returns t)
     (cut-product-sub-rounded t)
     (cut-product-third-requires t)
-    (cut-product-add-third t)
     (cut-product-third-requires-2 t)
-    (cut-product-mul-third t)
     (cut-product-third-requires-3 t)
     (cut-product-weave-requires t)
     (cut-product-same-length-4 t)
     (cut-product-same-length-5 t)
     (cut-product-same-length-6 t)
+    (cut-product-same-length-7 t)
+    (cut-product-same-length-8 t)
+    (cut-product-same-length-9 t)
     (cut-product-returns-2 t))
     λ t. third-lts.spec
-    (part-reads.Asked, part-reads.Learnt, cut-product-below t, cut-product.Post)
+    (third-claims t)
     (third-at t)
     third.Post
     (third-part-requires t)
@@ -241,8 +302,15 @@ pub +cut-product+third-spec : {M : Type 1} → statement M
     (third-sub-cut-product-3 t)
     (third-part-cut-product-start-3 t)
     (third-part-cut-product-end-3 t)
+    (third-mul-cut-product-4 t)
+    (third-sub-cut-product-4 t)
+    (third-part-cut-product-start-4 t)
+    (third-part-cut-product-end-4 t)
     (third-cut-product-requires t)
     (third-same-length t)
     (third-same-length-2 t)
     (third-same-length-3 t)
+    (third-same-length-4 t)
+    (third-same-length-5 t)
+    (third-same-length-6 t)
     (third-returns t)

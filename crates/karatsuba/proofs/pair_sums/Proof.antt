@@ -1,19 +1,21 @@
--- `karatsuba::pair_sums` meets its contract: what it reads lies before what it writes. Assumes nothing.
+-- `karatsuba::pair_sums` meets its contract. Assumes nothing.
+use native.Mathlib.Nat.{zero-add}
 use native.Mathlib.Omega.{arith}
 use Prim.Native.Nat.{_+_, _*_, _-_}
 use lib.ListN.{take}
+use lib.Seq.{getD-take}
 use mathlib.Core.Path.{_∙_}
 use Rattle.buffer.specs.Filling.{Filling, filling-first, filling-last, filling-next}
-use Rattle.karatsuba.specs.Halves.{kept-place, kept-residue, neighbourSum}
 use Rattle.definition.specs.Lists.{coefficient}
+use Rattle.karatsuba.specs.Halves.{neighbourSum}
 use Rattle.karatsuba.proofs.pair_sums.Statement.{statement}
 use Rattle.karatsuba.proofs.pair_sums.Tie as tie
 
 abbrev Inv-loop : tie.InvT-loop
-Inv-loop p n count x₀ i₀ x i = Filling (neighbourSum p (take n x₀)) n count x₀ x i
+Inv-loop p n count x u₀ i₀ u i = Filling (neighbourSum p (take n x)) 0 count u₀ u i
 
 abbrev μ-loop : tie.MeasureT-loop
-μ-loop p n count x₀ i₀ x i = count - i
+μ-loop p n count x u₀ i₀ u i = count - i
 
 loop-holds : tie.Need-loop-holds Inv-loop μ-loop
 loop-holds c = filling-first _ _ _ _
@@ -24,8 +26,8 @@ mul-sum c = omega arith
 mul-sum-2 : tie.Need-mul-sum-2 Inv-loop μ-loop
 mul-sum-2 c = omega arith
 
-slice-read-sum : tie.Need-slice-read-sum Inv-loop μ-loop
-slice-read-sum c = omega arith
+shared-slice-read-sum : tie.Need-shared-slice-read-sum Inv-loop μ-loop
+shared-slice-read-sum c = omega arith
 
 mul-sum-3 : tie.Need-mul-sum-3 Inv-loop μ-loop
 mul-sum-3 c = omega arith
@@ -36,25 +38,20 @@ add-sum c = omega arith
 mul-sum-4 : tie.Need-mul-sum-4 Inv-loop μ-loop
 mul-sum-4 c = omega arith
 
-slice-read-sum-2 : tie.Need-slice-read-sum-2 Inv-loop μ-loop
-slice-read-sum-2 c = omega arith
+shared-slice-read-sum-2 : tie.Need-shared-slice-read-sum-2 Inv-loop μ-loop
+shared-slice-read-sum-2 c = omega arith
 
 sum-requires : tie.Need-sum-requires Inv-loop μ-loop
+unfolding coefficient
 sum-requires c κs =
-    let at = c .before .before .before in
-    let residues = at .before .before .pre .2 in (
-      kept-residue (at .loop .inv) residues _ (omega arith),
-      kept-residue (at .loop .inv) residues _ (omega arith),
-    )
+    let residues = c .before .before .before .before .before .before .pre .3 in
+    (residues _ (omega arith), residues _ (omega arith))
 
-add-x : tie.Need-add-x Inv-loop μ-loop
-add-x c = omega arith
+mul-u : tie.Need-mul-u Inv-loop μ-loop
+mul-u c = omega arith
 
-mul-x : tie.Need-mul-x Inv-loop μ-loop
-mul-x c = omega arith
-
-slice-write-x : tie.Need-slice-write-x Inv-loop μ-loop
-slice-write-x c = omega arith
+slice-write-u : tie.Need-slice-write-u Inv-loop μ-loop
+slice-write-u c = omega arith
 
 add-i : tie.Need-add-i Inv-loop μ-loop
 add-i c = omega arith
@@ -66,12 +63,13 @@ loop-again : tie.Need-loop-again Inv-loop μ-loop
 unfolding neighbourSum coefficient
 loop-again c =
     let at = c .before .before .before .before in
-    filling-next (at .loop .inv) (omega arith)
+    let given = c .before .before .before .before .before .before .before .args in
+    rw zero-add at (filling-next (at .loop .inv) (omega arith)
     (c .sum .ensures
     ∙ rw (
-      kept-place (at .loop .inv) (2 * at .loop .i) (omega arith),
-      kept-place (at .loop .inv) (2 * at .loop .i + 1) (omega arith),
-    ))
+      getD-take (given .n) (given .x .now) (2 * at .loop .i) 0 (omega arith),
+      getD-take (given .n) (given .x .now) (2 * at .loop .i + 1) 0 (omega arith),
+    )))
 
 same-length : tie.Need-same-length Inv-loop μ-loop
 same-length c = omega arith
@@ -88,15 +86,14 @@ pair-sums-spec =
     loop-holds
     mul-sum
     mul-sum-2
-    slice-read-sum
+    shared-slice-read-sum
     mul-sum-3
     add-sum
     mul-sum-4
-    slice-read-sum-2
+    shared-slice-read-sum-2
     sum-requires
-    add-x
-    mul-x
-    slice-write-x
+    mul-u
+    slice-write-u
     add-i
     loop-less
     loop-again

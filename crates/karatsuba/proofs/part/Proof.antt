@@ -16,7 +16,7 @@ same-length c = search needs
 
 returns : tie.Need-returns
 returns c =
-    let given = c .before .before .before .before .before .before .args in
+    let given = c .before .before .before .before .before .before .before .args in
     rw (← part-second (given .p) (given .n) (given .count) (given .x .now) (given .which) (omega arith)) (c .before .before .every-second .ensures)
 
 same-length-2 : tie.Need-same-length-2
@@ -24,7 +24,7 @@ same-length-2 c = search needs
 
 returns-2 : tie.Need-returns-2
 returns-2 c =
-    let given = c .before .before .before .before .before .before .args in
+    let given = c .before .before .before .before .before .before .before .args in
     rw (← part-sums (given .p) (given .n) (given .count) (given .x .now) (given .which) (omega arith)) (c .before .before .pair-sums .ensures)
 
 pub part-spec : {M : Type 1} → statement M

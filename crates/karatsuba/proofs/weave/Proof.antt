@@ -1,39 +1,31 @@
--- `karatsuba::weave` meets its contract: each turn writes two places, and reads behind place n only. Assumes nothing.
+-- `karatsuba::weave` meets its contract: each turn reads three places of one list and writes two of the other. Assumes nothing.
 use borrow.Author.Needs.{needs}
 use native.Mathlib.Omega.{arith}
-use Prim.Native.Nat.{_+_, _-_, _/_}
+use Prim.Native.Nat.{_-_, _/_}
 use lib.ListN.{length-set}
-use mathlib.Core.Path.{_≡_, _∙_}
-use Rattle.karatsuba.specs.Weave.{Weaving, weaving-before, weaving-even, weaving-first, weaving-next, weaving-odd, weaving-residue}
+use mathlib.Core.Path.{_≡_}
+use Rattle.definition.specs.Lists.{coefficient}
+use Rattle.karatsuba.specs.Weave.{Weaving, weaving-before, weaving-even, weaving-first, weaving-next, weaving-odd}
 use Rattle.karatsuba.proofs.weave.Statement.{statement}
 use Rattle.karatsuba.proofs.weave.Tie as tie
 
 abbrev Inv-loop : tie.InvT-loop
-Inv-loop p n z₀ half odd sums before₀ i₀ z before i = Weaving p n z₀ z before i
+Inv-loop p n r z₀ half rounded before₀ i₀ z before i = Weaving p n r z₀ z before i
 
 abbrev μ-loop : tie.MeasureT-loop
-μ-loop p n z₀ half odd sums before₀ i₀ z before i = half - i
+μ-loop p n r z₀ half rounded before₀ i₀ z before i = half - i
 
-sub-odd : tie.Need-sub-odd Inv-loop μ-loop
-sub-odd c = omega arith
-
-add-odd : tie.Need-add-odd Inv-loop μ-loop
-add-odd c = omega arith
-
-mul-sums : tie.Need-mul-sums Inv-loop μ-loop
-mul-sums c = omega arith
+sub-rounded : tie.Need-sub-rounded Inv-loop μ-loop
+sub-rounded c = omega arith
 
 loop-holds : tie.Need-loop-holds Inv-loop μ-loop
-loop-holds c = weaving-first _ _ _
-
-add-e : tie.Need-add-e Inv-loop μ-loop
-add-e c = omega arith
+loop-holds c = weaving-first _ _ _ _
 
 mul-e : tie.Need-mul-e Inv-loop μ-loop
 mul-e c = omega arith
 
-slice-read-e : tie.Need-slice-read-e Inv-loop μ-loop
-slice-read-e c = omega arith
+shared-slice-read-e : tie.Need-shared-slice-read-e Inv-loop μ-loop
+shared-slice-read-e c = omega arith
 
 add-o : tie.Need-add-o Inv-loop μ-loop
 add-o c = omega arith
@@ -41,8 +33,8 @@ add-o c = omega arith
 mul-o : tie.Need-mul-o Inv-loop μ-loop
 mul-o c = omega arith
 
-slice-read-o : tie.Need-slice-read-o Inv-loop μ-loop
-slice-read-o c = omega arith
+shared-slice-read-o : tie.Need-shared-slice-read-o Inv-loop μ-loop
+shared-slice-read-o c = omega arith
 
 add-m : tie.Need-add-m Inv-loop μ-loop
 add-m c = omega arith
@@ -50,25 +42,21 @@ add-m c = omega arith
 mul-m : tie.Need-mul-m Inv-loop μ-loop
 mul-m c = omega arith
 
-slice-read-m : tie.Need-slice-read-m Inv-loop μ-loop
-slice-read-m c = omega arith
+shared-slice-read-m : tie.Need-shared-slice-read-m Inv-loop μ-loop
+shared-slice-read-m c = omega arith
 
 sum-requires : tie.Need-sum-requires Inv-loop μ-loop
+unfolding coefficient
 sum-requires c κs =
     let at = c .before .before .before .before in
-    let ready = at .before .before .pre in (
-      weaving-residue (at .loop .inv) ready (at .before .before .args .n + at .loop .i) (omega arith) (omega arith),
-      weaving-before (at .loop .inv) ready,
-    )
+    let ready = at .before .before .before .pre in
+    (ready .small _ (omega arith), weaving-before (at .loop .inv) ready)
 
 cross-requires : tie.Need-cross-requires Inv-loop μ-loop
+unfolding coefficient
 cross-requires c κs =
-    let at = c .before .before .before .before .before in
-    let ready = at .before .before .pre in (
-      weaving-residue (at .loop .inv) ready _ (omega arith) (omega arith),
-      weaving-residue (at .loop .inv) ready _ (omega arith) (omega arith),
-      weaving-residue (at .loop .inv) ready _ (omega arith) (omega arith),
-    )
+    let ready = c .before .before .before .before .before .before .before .before .pre in
+    (ready .small _ (omega arith), ready .small _ (omega arith), ready .small _ (omega arith))
 
 mul-z : tie.Need-mul-z Inv-loop μ-loop
 mul-z c = omega arith
@@ -105,22 +93,18 @@ loop-again c =
 mul-if1 : tie.Need-mul-if1 Inv-loop μ-loop
 mul-if1 c = omega arith
 
-add-sum : tie.Need-add-sum Inv-loop μ-loop
-add-sum c = omega arith
-
 mul-sum : tie.Need-mul-sum Inv-loop μ-loop
 mul-sum c = omega arith
 
-slice-read-sum : tie.Need-slice-read-sum Inv-loop μ-loop
-slice-read-sum c = omega arith
+shared-slice-read-sum : tie.Need-shared-slice-read-sum Inv-loop μ-loop
+shared-slice-read-sum c = omega arith
 
 sum-requires-2 : tie.Need-sum-requires-2 Inv-loop μ-loop
+unfolding coefficient
 sum-requires-2 c κs =
     let at = c .before .before .before in
-    let ready = at .before .before .pre in (
-      weaving-residue (at .loop .inv) ready _ (omega arith) (omega arith),
-      weaving-before (at .loop .inv) ready,
-    )
+    let ready = at .before .before .before .pre in
+    (ready .small _ (omega arith), weaving-before (at .loop .inv) ready)
 
 mul-z-5 : tie.Need-mul-z-5 Inv-loop μ-loop
 mul-z-5 c = omega arith
@@ -137,7 +121,7 @@ same-length c = search needs
 returns : tie.Need-returns Inv-loop μ-loop
 returns c =
     let at = c .before .before .before .before in
-    let all : at .loop .i ≡ at .before .before .args .n / 2 = omega arith in
+    let all : at .loop .i ≡ at .before .before .before .args .n / 2 = omega arith in
     weaving-odd (rw all at (at .loop .inv)) (c .sum2 .ensures) (omega arith)
 
 same-length-2 : tie.Need-same-length-2 Inv-loop μ-loop
@@ -154,19 +138,16 @@ weave-spec =
     (tie.spec
     Inv-loop
     μ-loop
-    sub-odd
-    add-odd
-    mul-sums
+    sub-rounded
     loop-holds
-    add-e
     mul-e
-    slice-read-e
+    shared-slice-read-e
     add-o
     mul-o
-    slice-read-o
+    shared-slice-read-o
     add-m
     mul-m
-    slice-read-m
+    shared-slice-read-m
     sum-requires
     cross-requires
     mul-z
@@ -180,9 +161,8 @@ weave-spec =
     loop-less
     loop-again
     mul-if1
-    add-sum
     mul-sum
-    slice-read-sum
+    shared-slice-read-sum
     sum-requires-2
     mul-z-5
     mul-z-6
