@@ -67,7 +67,7 @@ fn add_product(p: u32, n: usize, w: &mut [u32], a: usize, b: usize, t: usize)
     requires { ⌜ Operands p n a b t (now w) ⌝ }
     ensures { λ r. ⌜ now (w .exit) ≡ sets (now (w .entry)) t (addedProduct p n a b t (now (w .entry))) ⌝ }
 {
-    if n <= 12 {
+    if n <= 20 {
         add_coefficients(p, n, w, a, b, t, 0);
     } else if n <= 128 {
         added_product::add_by_rows(p, n, w, a, b, t);
