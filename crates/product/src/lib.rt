@@ -60,9 +60,10 @@ fn add_coefficients(p: u32, n: usize, w: &mut [u32], a: usize, b: usize, t: usiz
     }
 }
 
-// The same for all n places, in the way that is quickest for so many. Above 4096 places the first 4096 are taken this way, and the rest
-// coefficient by coefficient. The lists of the callees are not part of this function's own frame: since it calls itself, the compiler does not
-// inline functions with large lists into it, and a product of few places touches none of them.
+// The same for all n places, in the way that is quickest for so many. Above 4096 places the first half of them, rounded to a multiple of 4096,
+// is taken this way, so that in the end the first 4096 are, and the rest coefficient by coefficient. The lists of the callees are not part of
+// this function's own frame: the compiler does not inline functions with large lists into one that calls itself. It must call itself with a
+// number that is not known beforehand: with 4096 the compiler makes a copy for that number, and the call of itself is gone.
 fn add_product(p: u32, n: usize, w: &mut [u32], a: usize, b: usize, t: usize)
     requires { ⌜ Operands p n a b t (now w) ⌝ }
     ensures { λ r. ⌜ now (w .exit) ≡ sets (now (w .entry)) t (addedProduct p n a b t (now (w .entry))) ⌝ }
@@ -78,8 +79,9 @@ fn add_product(p: u32, n: usize, w: &mut [u32], a: usize, b: usize, t: usize)
     } else if n <= 4096 {
         added_product::add_up_to_4096(p, n, w, a, b, t);
     } else {
-        add_product(p, 4096, w, a, b, t);
-        add_coefficients(p, n, w, a, b, t, 4096);
+        let front = (n + 4095) / 8192 * 4096;
+        add_product(p, front, w, a, b, t);
+        add_coefficients(p, n, w, a, b, t, front);
     }
 }
 

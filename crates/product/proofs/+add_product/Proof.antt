@@ -1,6 +1,6 @@
 -- `product::add_product` meets its contract: each way of few places is the contract of its callee, and above 4096 places the front is written
 -- and then the rest. The measure is the number of places. Assumes nothing.
-use Prim.Native.Nat.{ℕ, _<_}
+use Prim.Native.Nat.{ℕ, _+_, _*_, _/_, _<_}
 use native.Mathlib.Omega.{arith}
 use native.Mathlib.Nat.{add-zero}
 use mathlib.Core.Path.{_∙_}
@@ -61,8 +61,14 @@ module _ (t : ℕ) where
   add-up-to-4096-requires : lts.Need-add-up-to-4096-requires (claims t) (add-product-at t) add-product.Post
   add-up-to-4096-requires c κs = search needs
 
+  add-front : lts.Need-add-front (claims t) (add-product-at t) add-product.Post
+  add-front c = search needs
+
+  mul-front : lts.Need-mul-front (claims t) (add-product-at t) add-product.Post
+  mul-front c = search needs
+
   add-product-requires : lts.Need-add-product-requires (claims t) (add-product-at t) add-product.Post
-  add-product-requires c κs = (omega arith, operands-fewer (c .before .before .before .before .before .before .before .pre .1) 4096 (omega arith))
+  add-product-requires c κs = (omega arith, operands-fewer (c .before .before .before .before .before .before .before .pre .1) _ (omega arith))
 
   add-coefficients-requires-2 : lts.Need-add-coefficients-requires-2 (claims t) (add-product-at t) add-product.Post
   add-coefficients-requires-2 c κs =
@@ -107,7 +113,8 @@ module _ (t : ℕ) where
       let rest = c .before .before in
       let front = rest .before .before .before .before in
       let start = front .before .before .before .before .before .before .before .before in
-      rest .add-coefficients2 .ensures ∙ rw (front .add-product .ensures) (added-parts (start .pre .1) 4096 (omega arith))
+      rest .add-coefficients2 .ensures
+      ∙ rw (front .add-product .ensures) (added-parts (start .pre .1) ((start .args .n + 4095) / 8192 * 4096) (omega arith))
 
 pub +add-product-spec : {M : Type 1} → statement M
 +add-product-spec =
@@ -122,6 +129,8 @@ pub +add-product-spec : {M : Type 1} → statement M
     (add-up-to-256-requires t)
     (add-up-to-1024-requires t)
     (add-up-to-4096-requires t)
+    (add-front t)
+    (mul-front t)
     (add-product-requires t)
     (add-coefficients-requires-2 t)
     (same-length t)
