@@ -1,6 +1,5 @@
 -- `rows::four_products` meets its contract. Assumes nothing.
 use borrow.Author.Needs.{needs}
-use native.Mathlib.Omega.{arith}
 use Prim.Native.Nat.{_<_, _^_}
 use mathlib.Core.Path.{refl, _∙_}
 use Rattle.rows.specs.Rows.{total-four}

@@ -1,6 +1,5 @@
 -- `schoolbook::cut_product` meets its contract. Assumes nothing.
 use borrow.Author.Needs.{needs}
-use native.Mathlib.Omega.{arith}
 use lib.Seq.{sets}
 use mathlib.Core.Path.{ap, _∙_}
 use Rattle.schoolbook.specs.Remainders.{factors, product-by-rows, summed-none, summed-small, zeros-replicate}

@@ -1,10 +1,8 @@
 -- `schoolbook::widen` meets its contract: after i turns the first i places are written. Assumes nothing.
 use borrow.Author.Needs.{needs}
 use native.Mathlib.Omega.{arith}
-use Prim.Native.Nat.{ℕ, _+_, _*_, _-_, _<_, _≤_, _%_, _^_}
-use lib.ListN.{length, getD, take, drop, set}
-use lib.Seq.{sets}
-use mathlib.Core.Path.{_≡_, refl, sym, ap, _∙_}
+use Prim.Native.Nat.{_-_}
+use mathlib.Core.Path.{_∙_}
 use Rattle.buffer.specs.Filling.{Filling, filling-first, filling-last, filling-next}
 use Rattle.definition.specs.Lists.{coefficient}
 use Rattle.schoolbook.specs.Remainders.{residueAt, residueList}
