@@ -6,7 +6,8 @@
 --   rest n x               what is lent of a list from place n on
 --   returned n x a         the list once the lent part has come back as a
 --   Third p n which count t x x' y y' r r'   the contract of `third`
---   left-length right-length target-length products-length   a list that was lent keeps its length
+--   left-inside right-inside target-inside products-inside   where the lent parts begin lies inside the lists
+--   left-length right-length target-length products-length   and the lists keep their lengths
 --   part-room              the parts of both factors have the room that their product needs
 --   third-done             and their product comes back
 -- Assumes nothing.
@@ -100,18 +101,31 @@ length-returned n x a h e =
     rw (length-append, length-append, length-take-le n x h, length-drop, length-drop)
     (omega (arith, e, length-rest n x))
 
-module _ {p n which count t : ℕ} {x u y v z r : List ℕ} (room : ThirdRoom p n which count t x u y v z r) (a : List ℕ) where
-  pub left-length : length a ≡ length (rest n x) → length (returned n x a) ≡ length x
-  left-length = length-returned n x a (omega (arith, room .left))
+module _ {p n which count t : ℕ} {x u y v z r : List ℕ} (room : ThirdRoom p n which count t x u y v z r) where
+  pub left-inside : n ≤ length x
+  left-inside = omega (arith, room .left)
 
-  pub right-length : length a ≡ length (rest n y) → length (returned n y a) ≡ length y
-  right-length = length-returned n y a (omega (arith, room .right))
+  pub right-inside : n ≤ length y
+  right-inside = omega (arith, room .right)
 
-  pub target-length : length a ≡ length (rest n z) → length (returned n z a) ≡ length z
-  target-length = length-returned n z a (omega (arith, room .target))
+  pub target-inside : n ≤ length z
+  target-inside = omega (arith, room .target)
 
-  pub products-length : length a ≡ length (rest t r) → length (returned t r a) ≡ length r
-  products-length = length-returned t r a (omega (arith, room .products))
+  pub products-inside : t ≤ length r
+  products-inside = omega (arith, room .products)
+
+  module _ (a : List ℕ) where
+    pub left-length : length a ≡ length (rest n x) → length (returned n x a) ≡ length x
+    left-length = length-returned n x a left-inside
+
+    pub right-length : length a ≡ length (rest n y) → length (returned n y a) ≡ length y
+    right-length = length-returned n y a right-inside
+
+    pub target-length : length a ≡ length (rest n z) → length (returned n z a) ≡ length z
+    target-length = length-returned n z a target-inside
+
+    pub products-length : length a ≡ length (rest t r) → length (returned t r a) ≡ length r
+    products-length = length-returned t r a products-inside
 
 -- a part of x, written to the front of u
 module _ (p n which count : ℕ) (x u u₁ : List ℕ) (fits : count ≤ length u) (written : u₁ ≡ sets u 0 (part p n which count x)) where
@@ -151,17 +165,14 @@ module _ {p n which count t : ℕ} {x u y v z r u₁ v₁ : List ℕ} (room : Th
   pub third-done : (a b c : List ℕ) → length c ≡ length (rest t r) → take count c ≡ cutProduct p count u₁ v₁
       → Third p n which count t x (returned n x a) y (returned n y b) r (returned t r c)
   third-done a b c size done = record {
-    left = take-returned n x a (omega (arith, room .left));
-    right = take-returned n y b (omega (arith, room .right));
-    before = take-returned t r c inside;
+    left = take-returned n x a (left-inside room);
+    right = take-returned n y b (right-inside room);
+    before = take-returned t r c (products-inside room);
     product =
-        rw (drop-at (take t r) _ t (length-take-le t r inside), take-append-le count c _ long)
+        rw (drop-at (take t r) _ t (length-take-le t r (products-inside room)), take-append-le count c _ long)
         (done ∙ sym (cutProduct-taken (room .modulus) count u₁ v₁)
         ∙ ap₂ (cutProduct p count) (written-part p n which count x u u₁ fits-u left) (written-part p n which count y v v₁ fits-v right));
   }
     where
-      inside : t ≤ length r
-      inside = omega (arith, room .products)
-
       long : count ≤ length c
       long = omega (arith, size, room .products, length-rest t r)

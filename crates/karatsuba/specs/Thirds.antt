@@ -3,12 +3,12 @@
 --   thirds-woven       the three products lie where `weave` reads them
 --   thirds-product     and what it leaves is the product
 -- Assumes nothing.
-use Prim.Native.Nat.{ℕ, zero, suc, _+_, _-_, _*_, _/_, _<_, _≤_}
+use Prim.Native.Nat.{ℕ, zero, suc, _+_, _-_, _/_, _<_, _≤_}
 use native.Mathlib.Decide.{decLt}
 use native.Mathlib.Nat.{mod-lt, suc-add, zero-add}
 use native.Mathlib.Omega.{arith}
 use mathlib.Core.List.{List, [], _∷_}
-use mathlib.Core.Path.{_≡_, ap, _∙_}
+use mathlib.Core.Path.{_≡_, _∙_}
 use lib.ListN.{length, take, drop}
 use lib.Seq.{getD-drop, getD-take, sets, take-nil, take-take}
 use Rattle.algebra.specs.Lists.{coefficient-tabulate, length-tabulate}

@@ -7,7 +7,7 @@ use mathlib.Core.Path.{_≡_, refl, _∙_}
 use Rattle.algebra.specs.Lists.{length-tabulate}
 use Rattle.buffer.specs.Written.{front-sets}
 use Rattle.definition.specs.Substitution.{cutProduct}
-use Rattle.karatsuba.specs.Room.{even-room, left-length, odd-room, part-room, products-length, right-length, sum-room, target-length, third-done}
+use Rattle.karatsuba.specs.Room.{even-room, left-inside, left-length, odd-room, part-room, products-inside, products-length, right-inside, right-length, sum-room, target-inside, target-length, third-done}
 use Rattle.karatsuba.specs.Thirds.{thirds-product, thirds-woven}
 use borrow.Fn.Kinds.{In}
 use borrow.Fn.PlainCycle.{Measures, is, falls, and}
@@ -195,10 +195,10 @@ module _ (t : ℕ) where
   third-mul-cut-product c = omega arith
 
   third-sub-cut-product : third-lts.Need-sub-cut-product (third-claims t) (third-at t) third.Post
-  third-sub-cut-product c = omega arith
+  third-sub-cut-product c = left-inside (c .before .before .before .before .before .before .before .before .before .before .before .before .before .before .before .before .before .pre .1)
 
   third-part-cut-product-start : third-lts.Need-part-cut-product-start (third-claims t) (third-at t) third.Post
-  third-part-cut-product-start c = omega arith
+  third-part-cut-product-start c = left-inside (c .before .before .before .before .before .before .before .before .before .before .before .before .before .before .before .before .before .pre .1)
 
   third-part-cut-product-end : third-lts.Need-part-cut-product-end (third-claims t) (third-at t) third.Post
   third-part-cut-product-end c = omega arith
@@ -207,10 +207,10 @@ module _ (t : ℕ) where
   third-mul-cut-product-2 c = omega arith
 
   third-sub-cut-product-2 : third-lts.Need-sub-cut-product-2 (third-claims t) (third-at t) third.Post
-  third-sub-cut-product-2 c = omega arith
+  third-sub-cut-product-2 c = right-inside (c .before .before .before .before .before .before .before .before .before .before .before .before .before .before .before .before .before .before .before .pre .1)
 
   third-part-cut-product-start-2 : third-lts.Need-part-cut-product-start-2 (third-claims t) (third-at t) third.Post
-  third-part-cut-product-start-2 c = omega arith
+  third-part-cut-product-start-2 c = right-inside (c .before .before .before .before .before .before .before .before .before .before .before .before .before .before .before .before .before .before .before .pre .1)
 
   third-part-cut-product-end-2 : third-lts.Need-part-cut-product-end-2 (third-claims t) (third-at t) third.Post
   third-part-cut-product-end-2 c = omega arith
@@ -219,10 +219,10 @@ module _ (t : ℕ) where
   third-mul-cut-product-3 c = omega arith
 
   third-sub-cut-product-3 : third-lts.Need-sub-cut-product-3 (third-claims t) (third-at t) third.Post
-  third-sub-cut-product-3 c = omega arith
+  third-sub-cut-product-3 c = products-inside (c .before .before .before .before .before .before .before .before .before .before .before .before .before .before .before .before .before .before .before .before .pre .1)
 
   third-part-cut-product-start-3 : third-lts.Need-part-cut-product-start-3 (third-claims t) (third-at t) third.Post
-  third-part-cut-product-start-3 c = omega arith
+  third-part-cut-product-start-3 c = products-inside (c .before .before .before .before .before .before .before .before .before .before .before .before .before .before .before .before .before .before .before .before .pre .1)
 
   third-part-cut-product-end-3 : third-lts.Need-part-cut-product-end-3 (third-claims t) (third-at t) third.Post
   third-part-cut-product-end-3 c = omega arith
@@ -231,10 +231,10 @@ module _ (t : ℕ) where
   third-mul-cut-product-4 c = omega arith
 
   third-sub-cut-product-4 : third-lts.Need-sub-cut-product-4 (third-claims t) (third-at t) third.Post
-  third-sub-cut-product-4 c = omega arith
+  third-sub-cut-product-4 c = target-inside (c .before .before .before .before .before .before .before .before .before .before .before .before .before .before .before .before .before .before .before .before .before .pre .1)
 
   third-part-cut-product-start-4 : third-lts.Need-part-cut-product-start-4 (third-claims t) (third-at t) third.Post
-  third-part-cut-product-start-4 c = omega arith
+  third-part-cut-product-start-4 c = target-inside (c .before .before .before .before .before .before .before .before .before .before .before .before .before .before .before .before .before .before .before .before .before .pre .1)
 
   third-part-cut-product-end-4 : third-lts.Need-part-cut-product-end-4 (third-claims t) (third-at t) third.Post
   third-part-cut-product-end-4 c = omega arith
