@@ -2,19 +2,21 @@
 --
 --   Room p n x u y v z r   what `cut_product` requires
 --   ThirdRoom              what `third` requires
---   third-room             it holds after an earlier `third`, which keeps lengths and the first n places
+--   even-room odd-room sum-room   it holds for the three, and after an earlier one, which keeps lengths and the first n places
 --   rest n x               what is lent of a list from place n on
 --   returned n x a         the list once the lent part has come back as a
 --   Third p n which count t x x' y y' r r'   the contract of `third`
+--   left-inside right-inside target-inside products-inside   where the lent parts begin lies inside the lists
+--   left-length right-length target-length products-length   and the lists keep their lengths
 --   part-room              the parts of both factors have the room that their product needs
 --   third-done             and their product comes back
 -- Assumes nothing.
-use Prim.Native.Nat.{ℕ, _+_, _-_, _*_, _<_, _≤_}
+use Prim.Native.Nat.{ℕ, _+_, _-_, _*_, _/_, _<_, _≤_}
 use native.Mathlib.Nat.{le-of-eq}
 use native.Mathlib.Omega.{arith}
 use mathlib.Core.List.{List, _++_}
 use mathlib.Core.Path.{_≡_, sym, ap, ap₂, _∙_}
-use lib.ListN.{length, take, drop, length-drop}
+use lib.ListN.{length, take, drop, length-append, length-drop}
 use lib.Seq.{drop-at, getD-take, length-sets, length-take-le, sets, take-all, take-append-le, take-at}
 use Rattle.algebra.specs.Lists.{length-tabulate}
 use Rattle.buffer.specs.Written.{front-sets}
@@ -46,22 +48,32 @@ pub record ThirdRoom (p n which count t : ℕ) (x u y v z r : List ℕ) : Type 0
   pub left-residues : Residues p n x
   pub right-residues : Residues p n y
 
-pub third-room : {p n which count t : ℕ} {x u y v z r x' u' y' v' z' r' : List ℕ} → Room p n x u y v z r
-    → 2 * count ≤ n + (1 - which) → 17 * count ≤ 9 * n → 8 * t + 17 * count ≤ 17 * n
-    → length x' ≡ length x → length u' ≡ length u → length y' ≡ length y → length v' ≡ length v → length z' ≡ length z → length r' ≡ length r
-    → take n x' ≡ take n x → take n y' ≡ take n y → ThirdRoom p n which count t x' u' y' v' z' r'
-third-room {n} {x} {y} {x'} {y'} room few half products size-x size-u size-y size-v size-z size-r same-x same-y = record {
-  modulus = room .modulus;
-  few = few;
-  left = omega (arith, room .left);
-  left-parts = omega (arith, room .left-parts);
-  right = omega (arith, room .right);
-  right-parts = omega (arith, room .right-parts);
-  target = omega (arith, room .target);
-  products = omega (arith, room .products);
-  left-residues = residues-kept n x x' same-x (room .left-residues);
-  right-residues = residues-kept n y y' same-y (room .right-residues);
-}
+module _ {p n : ℕ} {x u y v z r x' u' y' v' z' r' : List ℕ} (room : Room p n x u y v z r) (long : 128 < n)
+    (size-x : length x' ≡ length x) (size-u : length u' ≡ length u) (size-y : length y' ≡ length y) (size-v : length v' ≡ length v)
+    (size-z : length z' ≡ length z) (size-r : length r' ≡ length r) (same-x : take n x' ≡ take n x) (same-y : take n y' ≡ take n y) where
+  third-room : (which count t : ℕ) → 2 * count ≤ n + (1 - which) → 17 * count ≤ 9 * n → 8 * t + 17 * count ≤ 17 * n
+      → ThirdRoom p n which count t x' u' y' v' z' r'
+  third-room which count t few half products = record {
+    modulus = room .modulus;
+    few = few;
+    left = omega (arith, room .left);
+    left-parts = omega (arith, room .left-parts);
+    right = omega (arith, room .right);
+    right-parts = omega (arith, room .right-parts);
+    target = omega (arith, room .target);
+    products = omega (arith, room .products);
+    left-residues = residues-kept n x x' same-x (room .left-residues);
+    right-residues = residues-kept n y y' same-y (room .right-residues);
+  }
+
+  pub even-room : ThirdRoom p n 0 (n - n / 2) 0 x' u' y' v' z' r'
+  even-room = third-room 0 (n - n / 2) 0 (omega arith) (omega arith) (omega arith)
+
+  pub odd-room : ThirdRoom p n 1 (n / 2) (n - n / 2) x' u' y' v' z' r'
+  odd-room = third-room 1 (n / 2) (n - n / 2) (omega arith) (omega arith) (omega arith)
+
+  pub sum-room : ThirdRoom p n 2 (n / 2) n x' u' y' v' z' r'
+  sum-room = third-room 2 (n / 2) n (omega arith) (omega arith) (omega arith)
 
 pub record Third (p n which count t : ℕ) (x x' y y' r r' : List ℕ) : Type 0 where
   pub left : take n x' ≡ take n x
@@ -83,6 +95,37 @@ take-returned n x a h = take-at (take n x) _ n (length-take-le n x h)
 
 length-rest : (n : ℕ) (x : List ℕ) → length (rest n x) ≡ length x - n
 length-rest n x = rw (rest-drop, length-drop)
+
+length-returned : (n : ℕ) (x a : List ℕ) → n ≤ length x → length a ≡ length (rest n x) → length (returned n x a) ≡ length x
+length-returned n x a h e =
+    rw (length-append, length-append, length-take-le n x h, length-drop, length-drop)
+    (omega (arith, e, length-rest n x))
+
+module _ {p n which count t : ℕ} {x u y v z r : List ℕ} (room : ThirdRoom p n which count t x u y v z r) where
+  pub left-inside : n ≤ length x
+  left-inside = omega (arith, room .left)
+
+  pub right-inside : n ≤ length y
+  right-inside = omega (arith, room .right)
+
+  pub target-inside : n ≤ length z
+  target-inside = omega (arith, room .target)
+
+  pub products-inside : t ≤ length r
+  products-inside = omega (arith, room .products)
+
+  module _ (a : List ℕ) where
+    pub left-length : length a ≡ length (rest n x) → length (returned n x a) ≡ length x
+    left-length = length-returned n x a left-inside
+
+    pub right-length : length a ≡ length (rest n y) → length (returned n y a) ≡ length y
+    right-length = length-returned n y a right-inside
+
+    pub target-length : length a ≡ length (rest n z) → length (returned n z a) ≡ length z
+    target-length = length-returned n z a target-inside
+
+    pub products-length : length a ≡ length (rest t r) → length (returned t r a) ≡ length r
+    products-length = length-returned t r a products-inside
 
 -- a part of x, written to the front of u
 module _ (p n which count : ℕ) (x u u₁ : List ℕ) (fits : count ≤ length u) (written : u₁ ≡ sets u 0 (part p n which count x)) where
@@ -122,17 +165,14 @@ module _ {p n which count t : ℕ} {x u y v z r u₁ v₁ : List ℕ} (room : Th
   pub third-done : (a b c : List ℕ) → length c ≡ length (rest t r) → take count c ≡ cutProduct p count u₁ v₁
       → Third p n which count t x (returned n x a) y (returned n y b) r (returned t r c)
   third-done a b c size done = record {
-    left = take-returned n x a (omega (arith, room .left));
-    right = take-returned n y b (omega (arith, room .right));
-    before = take-returned t r c inside;
+    left = take-returned n x a (left-inside room);
+    right = take-returned n y b (right-inside room);
+    before = take-returned t r c (products-inside room);
     product =
-        rw (drop-at (take t r) _ t (length-take-le t r inside), take-append-le count c _ long)
+        rw (drop-at (take t r) _ t (length-take-le t r (products-inside room)), take-append-le count c _ long)
         (done ∙ sym (cutProduct-taken (room .modulus) count u₁ v₁)
         ∙ ap₂ (cutProduct p count) (written-part p n which count x u u₁ fits-u left) (written-part p n which count y v v₁ fits-v right));
   }
     where
-      inside : t ≤ length r
-      inside = omega (arith, room .products)
-
       long : count ≤ length c
       long = omega (arith, size, room .products, length-rest t r)

@@ -1,13 +1,13 @@
 -- `karatsuba::cut_product` and `karatsuba::third` meet their contracts. The measure is twice the number of places, and one more in `third`.
 -- Assumes nothing.
-use Prim.Native.Nat.{ℕ, _+_, _*_, _<_}
+use Prim.Native.Nat.{ℕ, _+_, _-_, _*_, _/_, _<_}
 use native.Mathlib.Omega.{arith}
 use borrow.Author.Needs.{needs}
-use mathlib.Core.Path.{refl, _∙_}
+use mathlib.Core.Path.{_≡_, refl, _∙_}
 use Rattle.algebra.specs.Lists.{length-tabulate}
 use Rattle.buffer.specs.Written.{front-sets}
 use Rattle.definition.specs.Substitution.{cutProduct}
-use Rattle.karatsuba.specs.Room.{part-room, third-done, third-room}
+use Rattle.karatsuba.specs.Room.{even-room, left-inside, left-length, odd-room, part-room, products-inside, products-length, right-inside, right-length, sum-room, target-inside, target-length, third-done}
 use Rattle.karatsuba.specs.Thirds.{thirds-product, thirds-woven}
 use borrow.Fn.Kinds.{In}
 use borrow.Fn.PlainCycle.{Measures, is, falls, and}
@@ -61,6 +61,13 @@ third-claims t = (
   cut-product.Post,
 )
 
+-- the measure falls
+even-falls : {t n : ℕ} → 2 * n ≡ t → 128 < n → 2 * (n - n / 2) + 1 < t
+even-falls e h = omega arith
+
+half-falls : {t n : ℕ} → 2 * n ≡ t → 128 < n → 2 * (n / 2) + 1 < t
+half-falls e h = omega arith
+
 module _ (t : ℕ) where
   cut-product-schoolbook-requires : cut-product-lts.Need-cut-product-requires (cut-product-claims t) (cut-product-at t) cut-product.Post
   cut-product-schoolbook-requires c κs = omega arith
@@ -87,14 +94,16 @@ module _ (t : ℕ) where
   cut-product-third-requires : cut-product-lts.Need-third-requires (cut-product-claims t) (cut-product-at t) cut-product.Post
   cut-product-third-requires c κs =
       let long = c .before .before .before .before .before .before in
-      (omega (arith, long .before .before .before .before .before .before .before .pre .0, long .if1 .left), third-room (long .before .before .before .before .before .before .before .pre .1) (omega (arith, long .if1 .left)) (omega (arith, long .if1 .left)) (omega (arith, long .if1 .left)) refl refl refl refl refl refl refl refl)
+      let start = long .before .before .before .before .before .before .before in
+      (even-falls (start .pre .0) (long .if1 .left), even-room (start .pre .1) (long .if1 .left) refl refl refl refl refl refl refl refl)
 
   cut-product-third-requires-2 : cut-product-lts.Need-third-requires-2 (cut-product-claims t) (cut-product-at t) cut-product.Post
   cut-product-third-requires-2 c κs =
       let evens = c .before .before .before .before .before .before .before .before .before .before .before .before .before .before .before .before .before .before in
-      let long = evens .before .before .before .before .before .before .before in (
-        omega (arith, long .before .before .before .before .before .before .before .pre .0, long .if1 .left),
-        third-room (long .before .before .before .before .before .before .before .pre .1) (omega (arith, long .if1 .left)) (omega (arith, long .if1 .left)) (omega (arith, long .if1 .left))
+      let long = evens .before .before .before .before .before .before .before in
+      let start = long .before .before .before .before .before .before .before in (
+        half-falls (start .pre .0) (long .if1 .left),
+        odd-room (start .pre .1) (long .if1 .left)
             (evens .third .kept .1 .1 .1 .1 .0) (evens .third .kept .1 .1 .1 .1 .1 .0) (evens .third .kept .1 .1 .1 .1 .1 .1 .0) (evens .third .kept .1 .1 .1 .1 .1 .1 .1 .0) (evens .third .kept .1 .1 .1 .1 .1 .1 .1 .1 .0) (evens .third .kept .1 .1 .1 .1 .1 .1 .1 .1 .1 .0)
             (evens .third .ensures .left) (evens .third .ensures .right),
       )
@@ -103,15 +112,16 @@ module _ (t : ℕ) where
   cut-product-third-requires-3 c κs =
       let odds = c .before .before .before .before .before .before .before .before .before .before .before .before .before .before .before .before .before .before in
       let evens = odds .before .before .before .before .before .before .before .before .before .before .before .before .before .before .before .before .before .before .before in
-      let long = evens .before .before .before .before .before .before .before in (
-        omega (arith, long .before .before .before .before .before .before .before .pre .0, long .if1 .left),
-        third-room (long .before .before .before .before .before .before .before .pre .1) (omega (arith, long .if1 .left)) (omega (arith, long .if1 .left)) (omega (arith, long .if1 .left))
-            (omega (arith, odds .third2 .kept .1 .1 .1 .1 .0, evens .third .kept .1 .1 .1 .1 .0))
-            (omega (arith, odds .third2 .kept .1 .1 .1 .1 .1 .0, evens .third .kept .1 .1 .1 .1 .1 .0))
-            (omega (arith, odds .third2 .kept .1 .1 .1 .1 .1 .1 .0, evens .third .kept .1 .1 .1 .1 .1 .1 .0))
-            (omega (arith, odds .third2 .kept .1 .1 .1 .1 .1 .1 .1 .0, evens .third .kept .1 .1 .1 .1 .1 .1 .1 .0))
-            (omega (arith, odds .third2 .kept .1 .1 .1 .1 .1 .1 .1 .1 .0, evens .third .kept .1 .1 .1 .1 .1 .1 .1 .1 .0))
-            (omega (arith, odds .third2 .kept .1 .1 .1 .1 .1 .1 .1 .1 .1 .0, evens .third .kept .1 .1 .1 .1 .1 .1 .1 .1 .1 .0))
+      let long = evens .before .before .before .before .before .before .before in
+      let start = long .before .before .before .before .before .before .before in (
+        half-falls (start .pre .0) (long .if1 .left),
+        sum-room (start .pre .1) (long .if1 .left)
+            (odds .third2 .kept .1 .1 .1 .1 .0 ∙ evens .third .kept .1 .1 .1 .1 .0)
+            (odds .third2 .kept .1 .1 .1 .1 .1 .0 ∙ evens .third .kept .1 .1 .1 .1 .1 .0)
+            (odds .third2 .kept .1 .1 .1 .1 .1 .1 .0 ∙ evens .third .kept .1 .1 .1 .1 .1 .1 .0)
+            (odds .third2 .kept .1 .1 .1 .1 .1 .1 .1 .0 ∙ evens .third .kept .1 .1 .1 .1 .1 .1 .1 .0)
+            (odds .third2 .kept .1 .1 .1 .1 .1 .1 .1 .1 .0 ∙ evens .third .kept .1 .1 .1 .1 .1 .1 .1 .1 .0)
+            (odds .third2 .kept .1 .1 .1 .1 .1 .1 .1 .1 .1 .0 ∙ evens .third .kept .1 .1 .1 .1 .1 .1 .1 .1 .1 .0)
             (odds .third2 .ensures .left ∙ evens .third .ensures .left) (odds .third2 .ensures .right ∙ evens .third .ensures .right),
       )
 
@@ -120,36 +130,36 @@ module _ (t : ℕ) where
       let sums = c .before .before .before .before .before .before .before .before .before .before .before .before .before .before in
       let odds = sums .before .before .before .before .before .before .before .before .before .before .before .before .before .before .before .before .before .before .before in
       let evens = odds .before .before .before .before .before .before .before .before .before .before .before .before .before .before .before .before .before .before .before in
-      thirds-woven (evens .before .before .before .before .before .before .before .before .before .before .before .before .before .before .pre .1) (omega (arith, sums .third3 .kept .1 .1 .1 .1 .1 .1 .1 .1 .1 .0, odds .third2 .kept .1 .1 .1 .1 .1 .1 .1 .1 .1 .0, evens .third .kept .1 .1 .1 .1 .1 .1 .1 .1 .1 .0)) (evens .third .ensures) (odds .third2 .ensures) (sums .third3 .ensures)
-      _ (omega (arith, sums .third3 .kept .1 .1 .1 .1 .1 .1 .1 .1 .0, odds .third2 .kept .1 .1 .1 .1 .1 .1 .1 .1 .0, evens .third .kept .1 .1 .1 .1 .1 .1 .1 .1 .0))
+      thirds-woven (evens .before .before .before .before .before .before .before .before .before .before .before .before .before .before .pre .1) (sums .third3 .kept .1 .1 .1 .1 .1 .1 .1 .1 .1 .0 ∙ odds .third2 .kept .1 .1 .1 .1 .1 .1 .1 .1 .1 .0 ∙ evens .third .kept .1 .1 .1 .1 .1 .1 .1 .1 .1 .0) (evens .third .ensures) (odds .third2 .ensures) (sums .third3 .ensures)
+      _ (sums .third3 .kept .1 .1 .1 .1 .1 .1 .1 .1 .0 ∙ odds .third2 .kept .1 .1 .1 .1 .1 .1 .1 .1 .0 ∙ evens .third .kept .1 .1 .1 .1 .1 .1 .1 .1 .0)
 
   cut-product-same-length-4 : cut-product-lts.Need-same-length-4 (cut-product-claims t) (cut-product-at t) cut-product.Post
   cut-product-same-length-4 c =
       let sums = c .before .before .before .before .before .before .before .before .before .before .before .before .before .before .before .before .before in
       let odds = sums .before .before .before .before .before .before .before .before .before .before .before .before .before .before .before .before .before .before .before in
       let evens = odds .before .before .before .before .before .before .before .before .before .before .before .before .before .before .before .before .before .before .before in
-      omega (arith, sums .third3 .kept .1 .1 .1 .1 .0, odds .third2 .kept .1 .1 .1 .1 .0, evens .third .kept .1 .1 .1 .1 .0)
+      sums .third3 .kept .1 .1 .1 .1 .0 ∙ odds .third2 .kept .1 .1 .1 .1 .0 ∙ evens .third .kept .1 .1 .1 .1 .0
 
   cut-product-same-length-5 : cut-product-lts.Need-same-length-5 (cut-product-claims t) (cut-product-at t) cut-product.Post
   cut-product-same-length-5 c =
       let sums = c .before .before .before .before .before .before .before .before .before .before .before .before .before .before .before .before .before in
       let odds = sums .before .before .before .before .before .before .before .before .before .before .before .before .before .before .before .before .before .before .before in
       let evens = odds .before .before .before .before .before .before .before .before .before .before .before .before .before .before .before .before .before .before .before in
-      omega (arith, sums .third3 .kept .1 .1 .1 .1 .1 .0, odds .third2 .kept .1 .1 .1 .1 .1 .0, evens .third .kept .1 .1 .1 .1 .1 .0)
+      sums .third3 .kept .1 .1 .1 .1 .1 .0 ∙ odds .third2 .kept .1 .1 .1 .1 .1 .0 ∙ evens .third .kept .1 .1 .1 .1 .1 .0
 
   cut-product-same-length-6 : cut-product-lts.Need-same-length-6 (cut-product-claims t) (cut-product-at t) cut-product.Post
   cut-product-same-length-6 c =
       let sums = c .before .before .before .before .before .before .before .before .before .before .before .before .before .before .before .before .before in
       let odds = sums .before .before .before .before .before .before .before .before .before .before .before .before .before .before .before .before .before .before .before in
       let evens = odds .before .before .before .before .before .before .before .before .before .before .before .before .before .before .before .before .before .before .before in
-      omega (arith, sums .third3 .kept .1 .1 .1 .1 .1 .1 .0, odds .third2 .kept .1 .1 .1 .1 .1 .1 .0, evens .third .kept .1 .1 .1 .1 .1 .1 .0)
+      sums .third3 .kept .1 .1 .1 .1 .1 .1 .0 ∙ odds .third2 .kept .1 .1 .1 .1 .1 .1 .0 ∙ evens .third .kept .1 .1 .1 .1 .1 .1 .0
 
   cut-product-same-length-7 : cut-product-lts.Need-same-length-7 (cut-product-claims t) (cut-product-at t) cut-product.Post
   cut-product-same-length-7 c =
       let sums = c .before .before .before .before .before .before .before .before .before .before .before .before .before .before .before .before .before in
       let odds = sums .before .before .before .before .before .before .before .before .before .before .before .before .before .before .before .before .before .before .before in
       let evens = odds .before .before .before .before .before .before .before .before .before .before .before .before .before .before .before .before .before .before .before in
-      omega (arith, sums .third3 .kept .1 .1 .1 .1 .1 .1 .1 .0, odds .third2 .kept .1 .1 .1 .1 .1 .1 .1 .0, evens .third .kept .1 .1 .1 .1 .1 .1 .1 .0)
+      sums .third3 .kept .1 .1 .1 .1 .1 .1 .1 .0 ∙ odds .third2 .kept .1 .1 .1 .1 .1 .1 .1 .0 ∙ evens .third .kept .1 .1 .1 .1 .1 .1 .1 .0
 
   cut-product-same-length-8 : cut-product-lts.Need-same-length-8 (cut-product-claims t) (cut-product-at t) cut-product.Post
   cut-product-same-length-8 c =
@@ -157,14 +167,14 @@ module _ (t : ℕ) where
       let sums = weaved .before .before .before .before .before .before .before .before .before .before .before .before .before .before .before in
       let odds = sums .before .before .before .before .before .before .before .before .before .before .before .before .before .before .before .before .before .before .before in
       let evens = odds .before .before .before .before .before .before .before .before .before .before .before .before .before .before .before .before .before .before .before in
-      omega (arith, weaved .weave .kept .1 .1 .1 .0, sums .third3 .kept .1 .1 .1 .1 .1 .1 .1 .1 .0, odds .third2 .kept .1 .1 .1 .1 .1 .1 .1 .1 .0, evens .third .kept .1 .1 .1 .1 .1 .1 .1 .1 .0)
+      weaved .weave .kept .1 .1 .1 .0 ∙ sums .third3 .kept .1 .1 .1 .1 .1 .1 .1 .1 .0 ∙ odds .third2 .kept .1 .1 .1 .1 .1 .1 .1 .1 .0 ∙ evens .third .kept .1 .1 .1 .1 .1 .1 .1 .1 .0
 
   cut-product-same-length-9 : cut-product-lts.Need-same-length-9 (cut-product-claims t) (cut-product-at t) cut-product.Post
   cut-product-same-length-9 c =
       let sums = c .before .before .before .before .before .before .before .before .before .before .before .before .before .before .before .before .before in
       let odds = sums .before .before .before .before .before .before .before .before .before .before .before .before .before .before .before .before .before .before .before in
       let evens = odds .before .before .before .before .before .before .before .before .before .before .before .before .before .before .before .before .before .before .before in
-      omega (arith, sums .third3 .kept .1 .1 .1 .1 .1 .1 .1 .1 .1 .0, odds .third2 .kept .1 .1 .1 .1 .1 .1 .1 .1 .1 .0, evens .third .kept .1 .1 .1 .1 .1 .1 .1 .1 .1 .0)
+      sums .third3 .kept .1 .1 .1 .1 .1 .1 .1 .1 .1 .0 ∙ odds .third2 .kept .1 .1 .1 .1 .1 .1 .1 .1 .1 .0 ∙ evens .third .kept .1 .1 .1 .1 .1 .1 .1 .1 .1 .0
 
   cut-product-returns-2 : cut-product-lts.Need-returns-2 (cut-product-claims t) (cut-product-at t) cut-product.Post
   cut-product-returns-2 c =
@@ -172,8 +182,8 @@ module _ (t : ℕ) where
       let sums = weaved .before .before .before .before .before .before .before .before .before .before .before .before .before .before .before in
       let odds = sums .before .before .before .before .before .before .before .before .before .before .before .before .before .before .before .before .before .before .before in
       let evens = odds .before .before .before .before .before .before .before .before .before .before .before .before .before .before .before .before .before .before .before in
-      thirds-product (evens .before .before .before .before .before .before .before .before .before .before .before .before .before .before .pre .1) (omega (arith, sums .third3 .kept .1 .1 .1 .1 .1 .1 .1 .1 .1 .0, odds .third2 .kept .1 .1 .1 .1 .1 .1 .1 .1 .1 .0, evens .third .kept .1 .1 .1 .1 .1 .1 .1 .1 .1 .0)) (evens .third .ensures) (odds .third2 .ensures) (sums .third3 .ensures)
-      _ (omega (arith, sums .third3 .kept .1 .1 .1 .1 .1 .1 .1 .1 .0, odds .third2 .kept .1 .1 .1 .1 .1 .1 .1 .1 .0, evens .third .kept .1 .1 .1 .1 .1 .1 .1 .1 .0)) (weaved .weave .ensures)
+      thirds-product (evens .before .before .before .before .before .before .before .before .before .before .before .before .before .before .pre .1) (sums .third3 .kept .1 .1 .1 .1 .1 .1 .1 .1 .1 .0 ∙ odds .third2 .kept .1 .1 .1 .1 .1 .1 .1 .1 .1 .0 ∙ evens .third .kept .1 .1 .1 .1 .1 .1 .1 .1 .1 .0) (evens .third .ensures) (odds .third2 .ensures) (sums .third3 .ensures)
+      _ (sums .third3 .kept .1 .1 .1 .1 .1 .1 .1 .1 .0 ∙ odds .third2 .kept .1 .1 .1 .1 .1 .1 .1 .1 .0 ∙ evens .third .kept .1 .1 .1 .1 .1 .1 .1 .1 .0) (weaved .weave .ensures)
 
   third-part-requires : third-lts.Need-part-requires (third-claims t) (third-at t) third.Post
   third-part-requires c κs = search needs
@@ -185,10 +195,10 @@ module _ (t : ℕ) where
   third-mul-cut-product c = omega arith
 
   third-sub-cut-product : third-lts.Need-sub-cut-product (third-claims t) (third-at t) third.Post
-  third-sub-cut-product c = omega arith
+  third-sub-cut-product c = left-inside (c .before .before .before .before .before .before .before .before .before .before .before .before .before .before .before .before .before .pre .1)
 
   third-part-cut-product-start : third-lts.Need-part-cut-product-start (third-claims t) (third-at t) third.Post
-  third-part-cut-product-start c = omega arith
+  third-part-cut-product-start c = left-inside (c .before .before .before .before .before .before .before .before .before .before .before .before .before .before .before .before .before .pre .1)
 
   third-part-cut-product-end : third-lts.Need-part-cut-product-end (third-claims t) (third-at t) third.Post
   third-part-cut-product-end c = omega arith
@@ -197,10 +207,10 @@ module _ (t : ℕ) where
   third-mul-cut-product-2 c = omega arith
 
   third-sub-cut-product-2 : third-lts.Need-sub-cut-product-2 (third-claims t) (third-at t) third.Post
-  third-sub-cut-product-2 c = omega arith
+  third-sub-cut-product-2 c = right-inside (c .before .before .before .before .before .before .before .before .before .before .before .before .before .before .before .before .before .before .before .pre .1)
 
   third-part-cut-product-start-2 : third-lts.Need-part-cut-product-start-2 (third-claims t) (third-at t) third.Post
-  third-part-cut-product-start-2 c = omega arith
+  third-part-cut-product-start-2 c = right-inside (c .before .before .before .before .before .before .before .before .before .before .before .before .before .before .before .before .before .before .before .pre .1)
 
   third-part-cut-product-end-2 : third-lts.Need-part-cut-product-end-2 (third-claims t) (third-at t) third.Post
   third-part-cut-product-end-2 c = omega arith
@@ -209,10 +219,10 @@ module _ (t : ℕ) where
   third-mul-cut-product-3 c = omega arith
 
   third-sub-cut-product-3 : third-lts.Need-sub-cut-product-3 (third-claims t) (third-at t) third.Post
-  third-sub-cut-product-3 c = omega arith
+  third-sub-cut-product-3 c = products-inside (c .before .before .before .before .before .before .before .before .before .before .before .before .before .before .before .before .before .before .before .before .pre .1)
 
   third-part-cut-product-start-3 : third-lts.Need-part-cut-product-start-3 (third-claims t) (third-at t) third.Post
-  third-part-cut-product-start-3 c = omega arith
+  third-part-cut-product-start-3 c = products-inside (c .before .before .before .before .before .before .before .before .before .before .before .before .before .before .before .before .before .before .before .before .pre .1)
 
   third-part-cut-product-end-3 : third-lts.Need-part-cut-product-end-3 (third-claims t) (third-at t) third.Post
   third-part-cut-product-end-3 c = omega arith
@@ -221,10 +231,10 @@ module _ (t : ℕ) where
   third-mul-cut-product-4 c = omega arith
 
   third-sub-cut-product-4 : third-lts.Need-sub-cut-product-4 (third-claims t) (third-at t) third.Post
-  third-sub-cut-product-4 c = omega arith
+  third-sub-cut-product-4 c = target-inside (c .before .before .before .before .before .before .before .before .before .before .before .before .before .before .before .before .before .before .before .before .before .pre .1)
 
   third-part-cut-product-start-4 : third-lts.Need-part-cut-product-start-4 (third-claims t) (third-at t) third.Post
-  third-part-cut-product-start-4 c = omega arith
+  third-part-cut-product-start-4 c = target-inside (c .before .before .before .before .before .before .before .before .before .before .before .before .before .before .before .before .before .before .before .before .before .pre .1)
 
   third-part-cut-product-end-4 : third-lts.Need-part-cut-product-end-4 (third-claims t) (third-at t) third.Post
   third-part-cut-product-end-4 c = omega arith
@@ -237,22 +247,34 @@ module _ (t : ℕ) where
       (omega (arith, start .pre .0), part-room (start .pre .1) (left .part .ensures) (right .part2 .ensures))
 
   third-same-length : third-lts.Need-same-length (third-claims t) (third-at t) third.Post
-  third-same-length c = omega arith
+  third-same-length c =
+      let done = c .before .before .before .before .before .before .before .before .before .before .before .before in
+      left-length (done .before .before .before .before .before .before .before .before .before .before .before .before .before .before .before .before .before .before .before .before .before .before .before .pre .1) (done .cut-product .last .1 .1 .1 .0) (done .cut-product .kept .1 .1 .1 .0)
 
   third-same-length-2 : third-lts.Need-same-length-2 (third-claims t) (third-at t) third.Post
-  third-same-length-2 c = omega arith
+  third-same-length-2 c =
+      let done = c .before .before .before .before .before .before .before .before .before .before .before .before in
+      done .cut-product .kept .1 .1 .0 ∙ done .before .before .before .before .before .before .before .before .before .before .before .before .before .before .part .kept .1 .1 .1 .1 .1 .0
 
   third-same-length-3 : third-lts.Need-same-length-3 (third-claims t) (third-at t) third.Post
-  third-same-length-3 c = omega arith
+  third-same-length-3 c =
+      let done = c .before .before .before .before .before .before .before .before .before .before .before .before in
+      right-length (done .before .before .before .before .before .before .before .before .before .before .before .before .before .before .before .before .before .before .before .before .before .before .before .pre .1) (done .cut-product .last .1 .1 .1 .1 .1 .0) (done .cut-product .kept .1 .1 .1 .1 .1 .0)
 
   third-same-length-4 : third-lts.Need-same-length-4 (third-claims t) (third-at t) third.Post
-  third-same-length-4 c = omega arith
+  third-same-length-4 c =
+      let done = c .before .before .before .before .before .before .before .before .before .before .before .before in
+      done .cut-product .kept .1 .1 .1 .1 .0 ∙ done .before .before .before .before .before .before .before .before .before .part2 .kept .1 .1 .1 .1 .1 .0
 
   third-same-length-5 : third-lts.Need-same-length-5 (third-claims t) (third-at t) third.Post
-  third-same-length-5 c = omega arith
+  third-same-length-5 c =
+      let done = c .before .before .before .before .before .before .before .before .before .before .before .before in
+      target-length (done .before .before .before .before .before .before .before .before .before .before .before .before .before .before .before .before .before .before .before .before .before .before .before .pre .1) (done .cut-product .last .1 .1 .1 .1 .1 .1 .1 .0) (done .cut-product .kept .1 .1 .1 .1 .1 .1 .1 .0)
 
   third-same-length-6 : third-lts.Need-same-length-6 (third-claims t) (third-at t) third.Post
-  third-same-length-6 c = omega arith
+  third-same-length-6 c =
+      let done = c .before .before .before .before .before .before .before .before .before .before .before .before in
+      products-length (done .before .before .before .before .before .before .before .before .before .before .before .before .before .before .before .before .before .before .before .before .before .before .before .pre .1) (done .cut-product .last .1 .1 .1 .1 .1 .1 .0) (done .cut-product .kept .1 .1 .1 .1 .1 .1 .0)
 
   third-returns : third-lts.Need-returns (third-claims t) (third-at t) third.Post
   third-returns c =
@@ -261,7 +283,7 @@ module _ (t : ℕ) where
       let left = right .before .before .before .before .before in
       third-done (left .before .before .before .before .before .before .before .before .before .pre .1) (left .part .ensures) (right .part2 .ensures)
       (done .cut-product .last .1 .1 .1 .0) (done .cut-product .last .1 .1 .1 .1 .1 .0) (done .cut-product .last .1 .1 .1 .1 .1 .1 .0)
-      (omega arith) (done .cut-product .ensures)
+      (done .cut-product .kept .1 .1 .1 .1 .1 .1 .0) (done .cut-product .ensures)
 
 pub +cut-product+third-spec : {M : Type 1} → statement M
 +cut-product+third-spec = close μ-cut-product μ-third (λ t. cut-product-lts.spec (cut-product-claims t)
