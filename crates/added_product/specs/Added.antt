@@ -21,7 +21,7 @@ use Rattle.buffer.specs.Written.{front-sets}
 use Rattle.definition.specs.Lists.{coefficient, tabulate}
 use Rattle.definition.specs.Ranged.{joined, joinedAt}
 use Rattle.definition.specs.Substitution.{cutProduct, cutProductAt, product}
-use Rattle.karatsuba.specs.Halves.{Residues}
+use Rattle.parity.specs.Halves.{Residues}
 use Rattle.karatsuba.specs.Rule.{cutProduct-taken}
 use Rattle.schoolbook.specs.Remainders.{length-residueList, product-residues, residue-below, residueList}
 

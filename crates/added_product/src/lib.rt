@@ -6,7 +6,7 @@ ghost use Prim.Native.Nat.{_+_, _*_, _<_, _≤_};
 ghost use lib.ListN.{length, take, drop};
 ghost use lib.Seq.{sets};
 ghost use Rattle.definition.specs.Lists.{tabulate};
-ghost use Rattle.karatsuba.specs.Halves.{Residues};
+ghost use Rattle.parity.specs.Halves.{Residues};
 ghost use Rattle.schoolbook.specs.Remainders.{residueList};
 ghost use Rattle.added_product.specs.Added.{Added, Lists, Parts, addedAt};
 

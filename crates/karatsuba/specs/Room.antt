@@ -22,7 +22,7 @@ use Rattle.algebra.specs.Lists.{length-tabulate}
 use Rattle.buffer.specs.Written.{front-sets}
 use Rattle.definition.specs.Lists.{coefficient}
 use Rattle.definition.specs.Substitution.{cutProduct}
-use Rattle.karatsuba.specs.Halves.{Residues, part, part-residue, residues-kept}
+use Rattle.parity.specs.Halves.{Residues, part, part-residue, residues-kept}
 use Rattle.karatsuba.specs.Rule.{cutProduct-taken}
 
 pub record Room (p n : ℕ) (x u y v z r : List ℕ) : Type 0 where

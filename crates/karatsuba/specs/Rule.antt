@@ -22,8 +22,8 @@ use Rattle.algebra.specs.Semiring.{Semiring}
 use Rattle.algebra.specs.Series.{Series, indeterminate-⊠, neg-at, shift, shift-0, shift-suc, ⊞-at}
 use Rattle.definition.specs.Lists.{coefficient, tabulate}
 use Rattle.definition.specs.Substitution.{cutProduct}
-use Rattle.karatsuba.specs.Halves.{neighbourSum, part, partAt, second}
-use Rattle.karatsuba.specs.Weave.{delayed, woven, wovenAt, woven-even, woven-odd}
+use Rattle.parity.specs.Halves.{neighbourSum, part, partAt, second}
+use Rattle.parity.specs.Weave.{delayed, woven, wovenAt, woven-even, woven-odd}
 
 module _ {p : ℕ} (l : 0 < p) (a b : Series (Residue p)) (n : ℕ) (e o m : ℕ → ℕ) where
   infixl 50 _⊞_

@@ -15,10 +15,10 @@ use Rattle.algebra.specs.Lists.{coefficient-tabulate, length-tabulate}
 use Rattle.buffer.specs.Written.{front-sets}
 use Rattle.definition.specs.Lists.{coefficient, tabulate}
 use Rattle.definition.specs.Substitution.{cutProduct, cutProductAt}
-use Rattle.karatsuba.specs.Halves.{part}
+use Rattle.parity.specs.Halves.{part}
 use Rattle.karatsuba.specs.Room.{Room, Third}
 use Rattle.karatsuba.specs.Rule.{rule}
-use Rattle.karatsuba.specs.Weave.{Woven, woven}
+use Rattle.parity.specs.Weave.{Woven, woven}
 
 drop-take : (i n : ℕ) (l : List ℕ) → drop i (take (i + n) l) ≡ take n (drop i l)
 drop-take zero n l = rw zero-add

@@ -17,9 +17,9 @@ use Rattle.karatsuba.proofs.+cut_product+third.Lts-cut_product as cut-p
 use Rattle.karatsuba.proofs.third.Reads as third
 use Rattle.karatsuba.proofs.third.Kinds as third-kinds
 use Rattle.karatsuba.proofs.+cut_product+third.Lts-third as third-lts
-use Rattle.karatsuba.proofs.part.Reads as part-reads
+use Rattle.parity.proofs.part.Reads as part-reads
 use Rattle.schoolbook.proofs.cut_product.Reads as schoolbook-reads
-use Rattle.karatsuba.proofs.weave.Reads as weave-reads
+use Rattle.parity.proofs.weave.Reads as weave-reads
 use Rattle.karatsuba.proofs.+cut_product+third.{statement}
 use Rattle.karatsuba.proofs.+cut_product+third.Tie.{close}
 

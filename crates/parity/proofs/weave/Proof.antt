@@ -1,13 +1,13 @@
--- `karatsuba::weave` meets its contract: each turn reads three places of one list and writes two of the other. Assumes nothing.
+-- `parity::weave` meets its contract: each turn reads three places of one list and writes two of the other. Assumes nothing.
 use borrow.Author.Needs.{needs}
 use native.Mathlib.Omega.{arith}
 use Prim.Native.Nat.{_-_, _/_}
 use lib.ListN.{length-set}
 use mathlib.Core.Path.{_≡_}
 use Rattle.definition.specs.Lists.{coefficient}
-use Rattle.karatsuba.specs.Weave.{Weaving, weaving-before, weaving-even, weaving-first, weaving-next, weaving-odd}
-use Rattle.karatsuba.proofs.weave.Statement.{statement}
-use Rattle.karatsuba.proofs.weave.Tie as tie
+use Rattle.parity.specs.Weave.{Weaving, weaving-before, weaving-even, weaving-first, weaving-next, weaving-odd}
+use Rattle.parity.proofs.weave.Statement.{statement}
+use Rattle.parity.proofs.weave.Tie as tie
 
 abbrev Inv-loop : tie.InvT-loop
 Inv-loop p n r z₀ half rounded before₀ i₀ z before i = Weaving p n r z₀ z before i

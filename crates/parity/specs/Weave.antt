@@ -24,7 +24,7 @@ use Rattle.algebra.specs.Alternate.{0<2}
 use Rattle.definition.specs.KinoshitaLi.{negative}
 use Rattle.definition.specs.Lists.{coefficient, tabulate}
 use Rattle.buffer.specs.Filling.{Filling, filling-first, filling-last, filling-next}
-use Rattle.karatsuba.specs.Halves.{Residues}
+use Rattle.parity.specs.Halves.{Residues}
 
 unfoldable pub delayed : (ℕ → ℕ) → ℕ → ℕ
 delayed o zero = 0

@@ -1,10 +1,10 @@
--- `karatsuba::cross` meets its contract, by the differences that it calls. Assumes nothing.
+-- `parity::cross` meets its contract, by the differences that it calls. Assumes nothing.
 use borrow.Author.Needs.{needs}
 use native.Mathlib.Nat.{mod-lt}
 use native.Mathlib.Omega.{arith}
 use mathlib.Core.Path.{_∙_}
-use Rattle.karatsuba.proofs.cross.Statement.{statement}
-use Rattle.karatsuba.proofs.cross.Tie as tie
+use Rattle.parity.proofs.cross.Statement.{statement}
+use Rattle.parity.proofs.cross.Tie as tie
 
 difference-requires : tie.Need-difference-requires
 difference-requires c κs = search needs

@@ -1,4 +1,4 @@
--- `karatsuba::pair_sums` meets its contract. Assumes nothing.
+-- `parity::pair_sums` meets its contract. Assumes nothing.
 use native.Mathlib.Nat.{zero-add}
 use native.Mathlib.Omega.{arith}
 use Prim.Native.Nat.{_+_, _*_, _-_}
@@ -7,9 +7,9 @@ use lib.Seq.{getD-take}
 use mathlib.Core.Path.{_∙_}
 use Rattle.buffer.specs.Filling.{Filling, filling-first, filling-last, filling-next}
 use Rattle.definition.specs.Lists.{coefficient}
-use Rattle.karatsuba.specs.Halves.{neighbourSum}
-use Rattle.karatsuba.proofs.pair_sums.Statement.{statement}
-use Rattle.karatsuba.proofs.pair_sums.Tie as tie
+use Rattle.parity.specs.Halves.{neighbourSum}
+use Rattle.parity.proofs.pair_sums.Statement.{statement}
+use Rattle.parity.proofs.pair_sums.Tie as tie
 
 abbrev Inv-loop : tie.InvT-loop
 Inv-loop p n count x u₀ i₀ u i = Filling (neighbourSum p (take n x)) 0 count u₀ u i

@@ -1,9 +1,9 @@
--- `karatsuba::part` meets its contract, by what it calls. Assumes nothing.
+-- `parity::part` meets its contract, by what it calls. Assumes nothing.
 use borrow.Author.Needs.{needs}
 use native.Mathlib.Omega.{arith}
-use Rattle.karatsuba.specs.Halves.{part-second, part-sums}
-use Rattle.karatsuba.proofs.part.Statement.{statement}
-use Rattle.karatsuba.proofs.part.Tie as tie
+use Rattle.parity.specs.Halves.{part-second, part-sums}
+use Rattle.parity.proofs.part.Statement.{statement}
+use Rattle.parity.proofs.part.Tie as tie
 
 every-second-requires : tie.Need-every-second-requires
 every-second-requires c κs = search needs

@@ -1,4 +1,4 @@
--- `karatsuba::every_second` meets its contract. Assumes nothing.
+-- `parity::every_second` meets its contract. Assumes nothing.
 use native.Mathlib.Nat.{zero-add}
 use native.Mathlib.Omega.{arith}
 use Prim.Native.Nat.{_+_, _*_, _-_}
@@ -7,9 +7,9 @@ use lib.Seq.{getD-take}
 use mathlib.Core.Path.{sym}
 use Rattle.buffer.specs.Filling.{Filling, filling-first, filling-last, filling-next}
 use Rattle.definition.specs.Lists.{coefficient}
-use Rattle.karatsuba.specs.Halves.{second}
-use Rattle.karatsuba.proofs.every_second.Statement.{statement}
-use Rattle.karatsuba.proofs.every_second.Tie as tie
+use Rattle.parity.specs.Halves.{second}
+use Rattle.parity.proofs.every_second.Statement.{statement}
+use Rattle.parity.proofs.every_second.Tie as tie
 
 abbrev Inv-loop : tie.InvT-loop
 Inv-loop n from count x u₀ i₀ u i = Filling (second from (take n x)) 0 count u₀ u i
