@@ -14,18 +14,19 @@
 --   sets-part           a part lent from place i on and come back as vs
 --   sets-front          a part lent from place 0 on and come back as vs
 --   length-part         the length of k places from place i on
+--   drop-take           these k places, cut before or after
 --   sets-whole          a write over the whole list
 --   cleared-part        a part lent from place t on and come back cleared
 -- Assumes nothing.
-use Prim.Native.Nat.{ℕ, suc, _+_, _-_, _<_, _≤_}
-use native.Mathlib.Nat.{add-zero, add-suc, suc-add, le-of-eq}
+use Prim.Native.Nat.{ℕ, zero, suc, _+_, _<_, _≤_}
+use native.Mathlib.Nat.{add-zero, add-suc, suc-add, zero-add, le-of-eq}
 use native.Mathlib.Numerals.{add-one}
 use native.Mathlib.Omega.{arith}
 use mathlib.Core.Logic.{_≢_}
 use mathlib.Core.Path.{_≡_, refl, sym, ap, _∙_}
 use mathlib.Core.List.{List, [], _∷_, _++_, append-assoc, append-nil}
 use lib.ListN.{length, getD, take, drop, set, replicate, length-drop, length-replicate, drop-of-length-le}
-use lib.Seq.{sets, sets-eq, set-comm, set-set, take-set-le, drop-set-lt, drop-set-add, getD-set-other, drop-drop, drop-at, length-take-le, take-append-seam, getD-drop, getD-take, drop-length, take-suc}
+use lib.Seq.{sets, sets-eq, set-comm, set-set, take-set-le, drop-set-lt, drop-set-add, getD-set-other, drop-drop, drop-at, length-take-le, take-append-seam, getD-drop, getD-take, drop-length, take-nil, take-suc}
 use Rattle.definition.specs.Answer.{cleared}
 
 module _ {A : Type 0} where
@@ -82,6 +83,11 @@ module _ {A : Type 0} where
 
   pub front-sets : (n : ℕ) (l vs : List A) {after : List A} → after ≡ sets l 0 vs → length vs ≡ n → n ≤ length l → take n after ≡ vs
   front-sets n l vs written size h = ap (take n) written ∙ rw size at (part-sets l 0 vs (omega arith))
+
+  pub drop-take : (i n : ℕ) (l : List A) → drop i (take (i + n) l) ≡ take n (drop i l)
+  drop-take zero n l = rw zero-add
+  drop-take (suc i) n [] = rw (suc-add, take-nil n)
+  drop-take (suc i) n (x ∷ l) = rw suc-add (drop-take i n l)
 
   pub getD-sets-inside : (l : List A) (i : ℕ) (vs : List A) (j : ℕ) (d : A) → i + length vs ≤ length l → j < length vs
       → getD (sets l i vs) (i + j) d ≡ getD vs j d

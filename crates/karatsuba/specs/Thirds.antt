@@ -3,27 +3,22 @@
 --   thirds-woven       the three products lie where `weave` reads them
 --   thirds-product     and what it leaves is the product
 -- Assumes nothing.
-use Prim.Native.Nat.{ℕ, zero, suc, _+_, _-_, _/_, _<_, _≤_}
+use Prim.Native.Nat.{ℕ, _+_, _-_, _/_, _<_, _≤_}
 use native.Mathlib.Decide.{decLt}
-use native.Mathlib.Nat.{mod-lt, suc-add, zero-add}
+use native.Mathlib.Nat.{mod-lt}
 use native.Mathlib.Omega.{arith}
-use mathlib.Core.List.{List, [], _∷_}
+use mathlib.Core.List.{List}
 use mathlib.Core.Path.{_≡_, _∙_}
 use lib.ListN.{length, take, drop}
-use lib.Seq.{getD-drop, getD-take, sets, take-nil, take-take}
+use lib.Seq.{getD-drop, getD-take, sets, take-take}
 use Rattle.algebra.specs.Lists.{coefficient-tabulate, length-tabulate}
-use Rattle.buffer.specs.Written.{front-sets}
+use Rattle.buffer.specs.Written.{drop-take, front-sets}
 use Rattle.definition.specs.Lists.{coefficient, tabulate}
 use Rattle.definition.specs.Substitution.{cutProduct, cutProductAt}
 use Rattle.parity.specs.Halves.{part}
 use Rattle.karatsuba.specs.Room.{Room, Third}
 use Rattle.karatsuba.specs.Rule.{rule}
 use Rattle.parity.specs.Weave.{Woven, woven}
-
-drop-take : (i n : ℕ) (l : List ℕ) → drop i (take (i + n) l) ≡ take n (drop i l)
-drop-take zero n l = rw zero-add
-drop-take (suc i) n [] = rw (suc-add, take-nil n)
-drop-take (suc i) n (x ∷ l) = rw suc-add (drop-take i n l)
 
 segment-kept : (a c b : ℕ) (z z' : List ℕ) → take b z' ≡ take b z → a + c ≤ b → take c (drop a z') ≡ take c (drop a z)
 segment-kept a c b z z' e h =

@@ -9,15 +9,15 @@
 --   apart-within          segments of two segments that lie apart lie apart
 --   apart-length          and they do so in every list of that length
 -- Assumes nothing.
-use Prim.Native.Nat.{ℕ, zero, suc, _+_, _-_, _<_, _≤_}
-use native.Mathlib.Nat.{min-le-left, suc-add, zero-add}
+use Prim.Native.Nat.{ℕ, _+_, _-_, _<_, _≤_}
+use native.Mathlib.Nat.{min-le-left}
 use native.Mathlib.Omega.{arith}
 use mathlib.Core.Path.{_≡_, ap}
 use mathlib.Core.Logic.{_⊎_, inl, inr, ⊎-elim}
-use mathlib.Core.List.{List, [], _∷_}
+use mathlib.Core.List.{List}
 use lib.ListN.{length, take, drop, length-take}
-use lib.Seq.{sets, drop-drop, getD-drop, getD-take, take-nil, take-take}
-use Rattle.buffer.specs.Written.{drop-sets, drop-sets-inside, take-sets}
+use lib.Seq.{sets, drop-drop, getD-drop, getD-take, take-take}
+use Rattle.buffer.specs.Written.{drop-sets, drop-sets-inside, drop-take, take-sets}
 use Rattle.definition.specs.Lists.{coefficient}
 
 abbrev pub segment : List ℕ → ℕ → ℕ → List ℕ
@@ -34,11 +34,6 @@ coefficient-segment w a n i h = rw (getD-take n (drop a w) i 0 h, getD-drop)
 
 pub length-segment : (w : List ℕ) (a n : ℕ) → length (segment w a n) ≤ n
 length-segment w a n = rw length-take (min-le-left n (length (drop a w)))
-
-drop-take : {A : Type 0} (i n : ℕ) (l : List A) → drop i (take (i + n) l) ≡ take n (drop i l)
-drop-take zero n l = rw zero-add
-drop-take (suc i) n [] = rw (suc-add, take-nil n)
-drop-take (suc i) n (x ∷ l) = rw suc-add (drop-take i n l)
 
 pub segment-segment : (w : List ℕ) (a n i k : ℕ) → i + k ≤ n → segment (segment w a n) i k ≡ segment w (a + i) k
 segment-segment w a n i k h =
