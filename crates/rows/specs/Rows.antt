@@ -3,15 +3,21 @@
 -- Row j is place j of x times y. The list y has seven zeros before its first place, so that every row of a pass reaches the same places: row j
 -- adds x_j y_(k + 7 - j) to place k.
 --
+--   Below b l                  the places of l are below b
+--   IsFour f x i               four places of a list, from i on
+--   FourBelow PlacesBelow      four such factors, and four places of the other list, below a bound
+--   four-below places-below    they are, where all places of the lists are
+--   product-below              a product of numbers below 2^31
 --   Factors b n x y            two such lists, their places below b, with room behind n places
 --   factors-below              it holds of every larger bound
 --   fourProducts f y e         four products, one place of y after the other downwards
 --   four-rows eight-rows       what four and what eight rows add to a place
 --   IsTotal m number t         a number in two parts, of which one wraps
+--   total-four                 four products in such parts
 --   Kept f i s h               the sum of the first i terms, kept in two such parts
 --   kept-none kept-same kept-more   of no term, after terms that are 0, and after more terms
 --   Summed i n x y sums high   the places below n hold the sums of the rows before i
---   summed-more                rows above all places add nothing
+--   summed-more rows-above     rows above a place add nothing to it
 --   Pass m i k n x y sums high rows i to i + m - 1 are added at the places below k, and not yet at those from k on
 --   pass-first pass-next pass-last   before the first place, after one more, and after the last
 --   pass-fits                  the counts stay small
