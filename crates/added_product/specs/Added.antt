@@ -2,21 +2,19 @@
 --
 --   addedAt p t w z k      place t + k of w plus place k of z, modulo p
 --   Parts p n a b t w      what each function requires: three parts of n places inside w
---   Lists n x u y v z r    six lists long enough for a product by halves
 --   Added                  what each ensures
 --   residues-product       the first n places are residues where they are a product
 --   added-joined           the sum with a product
---   length-cutProduct      a product has n places
 --   loaded-residues        residues read into the front of a list
 --   loaded-product         and the product of two such lists
 -- Assumes nothing.
-use Prim.Native.Nat.{ℕ, _+_, _*_, _%_, _<_, _≤_}
+use Prim.Native.Nat.{ℕ, _+_, _%_, _<_, _≤_}
 use native.Mathlib.Nat.{add-mod-mod, mod-lt}
 use mathlib.Core.List.{List}
 use mathlib.Core.Path.{_≡_, sym, ap, _∙_}
 use lib.ListN.{length, getD, take, drop}
 use lib.Seq.{sets, getD-drop, getD-take}
-use Rattle.algebra.specs.Lists.{coefficient-tabulate, length-tabulate, tabulate-cong}
+use Rattle.algebra.specs.Lists.{coefficient-tabulate, tabulate-cong}
 use Rattle.buffer.specs.Written.{front-sets}
 use Rattle.definition.specs.Lists.{coefficient, tabulate}
 use Rattle.definition.specs.Ranged.{joined, joinedAt}
@@ -35,14 +33,6 @@ pub record Parts (p n a b t : ℕ) (w : List ℕ) : Type 0 where
   pub right : b + n ≤ length w
   pub target : t + n ≤ length w
 
-pub record Lists (n : ℕ) (x u y v z r : List ℕ) : Type 0 where
-  pub left : 3 * n ≤ 2 * length x
-  pub left-parts : 7 * n ≤ 8 * length u
-  pub right : 3 * n ≤ 2 * length y
-  pub right-parts : 7 * n ≤ 8 * length v
-  pub target : 17 * n ≤ 8 * length z
-  pub products : 17 * n ≤ 8 * length r
-
 pub record Added (p n a b t : ℕ) (before after : List ℕ) : Type 0 where
   pub written : after ≡ sets before t (joined p n (take n (drop t before)) (take n (drop a before)) (take n (drop b before)))
 
@@ -60,10 +50,6 @@ module _ {p : ℕ} (l : 0 < p) (n : ℕ) (z u v : List ℕ) (e : take n z ≡ cu
   unfolding addedAt joined joinedAt coefficient
   added-joined t w = tabulate-cong n (addedAt p t w z) (joinedAt p (take n (drop t w)) u v)
       (λ k h. rw (place-product k h, add-mod-mod, getD-take n (drop t w) k 0 h, getD-drop))
-
-pub length-cutProduct : (p n : ℕ) (u v : List ℕ) → length (cutProduct p n u v) ≡ n
-unfolding cutProduct
-length-cutProduct p n u v = length-tabulate n (cutProductAt p u v)
 
 -- factors that were read into the front of other lists
 loaded-front : (p n : ℕ) (x u : List ℕ) {x' : List ℕ} → x' ≡ sets x 0 (residueList p n u) → n ≤ length x → take n x' ≡ residueList p n u

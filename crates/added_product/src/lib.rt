@@ -6,9 +6,10 @@ ghost use Prim.Native.Nat.{_+_, _*_, _<_, _≤_};
 ghost use lib.ListN.{length, take, drop};
 ghost use lib.Seq.{sets};
 ghost use Rattle.definition.specs.Lists.{tabulate};
+ghost use Rattle.karatsuba.specs.Room.{Lists};
 ghost use Rattle.parity.specs.Halves.{Residues};
 ghost use Rattle.schoolbook.specs.Remainders.{residueList};
-ghost use Rattle.added_product.specs.Added.{Added, Lists, Parts, addedAt};
+ghost use Rattle.added_product.specs.Added.{Added, Parts, addedAt};
 
 // The first n places of z become those of x modulo p.
 fn load(p: u32, n: usize, x: &[u32], z: &mut [u32])

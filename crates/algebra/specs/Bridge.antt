@@ -10,6 +10,7 @@
 --   series-listed          the series of a list that was read off a series agrees with that series below n
 --   listed-series          a list of n numbers below p is read off its own series
 --   length-listed coefficient-listed   length and places of such a list
+--   length-cutProduct      a cut product has n places
 --   residue-series l       the semiring of series over the residues
 --   scalars l              natural numbers as constant series
 --   value l f s            the polynomial f, a list of natural numbers, at a series s
@@ -116,6 +117,10 @@ substituted-series f g = fun-ext λ k.
     rw (evaluate-sum (constants naturals) f (coefficient g) (length f) (omega arith), sum-at naturals)
     (sum-naturals (length f) (substitutedTerm f g k)
     ∙ Sum.sum-cong naturals (length f) _ _ (λ i b. rw (constant-⊠-at naturals, power-series)))
+
+pub length-cutProduct : (p n : ℕ) (a b : List ℕ) → length (cutProduct p n a b) ≡ n
+unfolding cutProduct
+length-cutProduct p n a b = length-tabulate n (cutProductAt p a b)
 
 module _ {p : ℕ} where
   pub listed : ℕ → Series (Residue p) → List ℕ

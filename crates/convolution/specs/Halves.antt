@@ -1,6 +1,6 @@
 -- An exact sum of 64-bit numbers whose low and high 32-bit halves are summed apart.
 --
---   small-product      the product of two 32-bit numbers is at most (2^32 - 1)^2
+--   product-below      the product of two numbers below m is at most (m - 1)^2
 --   carried            the remainder of 2^32 high + low, with what low has above its 32 bits carried to high
 --   Halves c f i low high   2^32 high + low is c + f(0) + .. + f(i - 1), and both halves are small
 --   halves-first       it holds before the first term
@@ -16,8 +16,8 @@ use mathlib.Core.Path.{_≡_}
 use Rattle.algebra.specs.Remainder.{mod-mul-mod}
 use Rattle.definition.specs.Lists.{sum}
 
-pub small-product : {a b : ℕ} → a < 2 ^ 32 → b < 2 ^ 32 → a * b ≤ (2 ^ 32 - 1) * (2 ^ 32 - 1)
-small-product h k = mul-le-mul {n₂ = 2 ^ 32 - 1} {m₂ = 2 ^ 32 - 1} (omega arith) (omega arith)
+pub product-below : {m a b : ℕ} → a < m → b < m → a * b ≤ (m - 1) * (m - 1)
+product-below {m} h k = mul-le-mul {n₂ = m - 1} {m₂ = m - 1} (omega arith) (omega arith)
 
 pub carried : (p high low : ℕ)
     → ((high + low / 2 ^ 32) % p * 2 ^ 32 + low % 2 ^ 32) % p ≡ (2 ^ 32 * high + low) % p

@@ -1,6 +1,7 @@
 -- The room that a product needs, and what one of its three products takes of it.
 --
---   Room p n x u y v z r   what `cut_product` requires
+--   Lists n x u y v z r    six lists that are long enough for a product of n places
+--   Room p n x u y v z r   what `cut_product` requires: such lists, and two of residues
 --   ThirdRoom              what `third` requires
 --   even-room odd-room sum-room   it holds for the three, and after an earlier one, which keeps lengths and the first n places
 --   rest n x               what is lent of a list from place n on
@@ -25,14 +26,17 @@ use Rattle.definition.specs.Substitution.{cutProduct}
 use Rattle.parity.specs.Halves.{Residues, part, part-residue, residues-kept}
 use Rattle.karatsuba.specs.Rule.{cutProduct-taken}
 
-pub record Room (p n : ℕ) (x u y v z r : List ℕ) : Type 0 where
-  pub modulus : 0 < p
+pub record Lists (n : ℕ) (x u y v z r : List ℕ) : Type 0 where
   pub left : 3 * n ≤ 2 * length x
   pub left-parts : 7 * n ≤ 8 * length u
   pub right : 3 * n ≤ 2 * length y
   pub right-parts : 7 * n ≤ 8 * length v
   pub target : 17 * n ≤ 8 * length z
   pub products : 17 * n ≤ 8 * length r
+
+pub record Room (p n : ℕ) (x u y v z r : List ℕ) : Type 0 where
+  pub modulus : 0 < p
+  pub lists : Lists n x u y v z r
   pub left-residues : Residues p n x
   pub right-residues : Residues p n y
 
@@ -56,12 +60,12 @@ module _ {p n : ℕ} {x u y v z r x' u' y' v' z' r' : List ℕ} (room : Room p n
   third-room which count t few half products = record {
     modulus = room .modulus;
     few = few;
-    left = omega (arith, room .left);
-    left-parts = omega (arith, room .left-parts);
-    right = omega (arith, room .right);
-    right-parts = omega (arith, room .right-parts);
-    target = omega (arith, room .target);
-    products = omega (arith, room .products);
+    left = omega (arith, room .lists .left);
+    left-parts = omega (arith, room .lists .left-parts);
+    right = omega (arith, room .lists .right);
+    right-parts = omega (arith, room .lists .right-parts);
+    target = omega (arith, room .lists .target);
+    products = omega (arith, room .lists .products);
     left-residues = residues-kept n x x' same-x (room .left-residues);
     right-residues = residues-kept n y y' same-y (room .right-residues);
   }
@@ -152,12 +156,14 @@ module _ {p n which count t : ℕ} {x u y v z r u₁ v₁ : List ℕ} (room : Th
   pub part-room : Room p count u₁ (rest n x) v₁ (rest n y) (rest t r) (rest n z)
   part-room = record {
     modulus = room .modulus;
-    left = omega (arith, room .left-parts, length-written p n which count x u u₁ fits-u left);
-    left-parts = omega (arith, room .left, length-rest n x);
-    right = omega (arith, room .right-parts, length-written p n which count y v v₁ fits-v right);
-    right-parts = omega (arith, room .right, length-rest n y);
-    target = omega (arith, room .products, length-rest t r);
-    products = omega (arith, room .target, length-rest n z);
+    lists = record {
+      left = omega (arith, room .left-parts, length-written p n which count x u u₁ fits-u left);
+      left-parts = omega (arith, room .left, length-rest n x);
+      right = omega (arith, room .right-parts, length-written p n which count y v v₁ fits-v right);
+      right-parts = omega (arith, room .right, length-rest n y);
+      target = omega (arith, room .products, length-rest t r);
+      products = omega (arith, room .target, length-rest n z);
+    };
     left-residues = written-residues p n which count x u u₁ fits-u left (room .modulus) (room .left-residues) (room .few);
     right-residues = written-residues p n which count y v v₁ fits-v right (room .modulus) (room .right-residues) (room .few);
   }

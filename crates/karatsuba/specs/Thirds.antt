@@ -53,8 +53,8 @@ module _ {p n : ℕ} {x u y v z r x₁ y₁ r₁ x₂ y₂ r₂ x₃ y₃ r₃ :
     pub thirds-woven : Woven p n r₃ z₃
     thirds-woven = record {
       modulus = room .modulus;
-      source = omega (arith, room .products);
-      target = omega (arith, room .target);
+      source = omega (arith, room .lists .products);
+      target = omega (arith, room .lists .target);
       small = λ k h. at k h (decLt k (n - n / 2)) (decLt k n);
     }
       where
@@ -65,5 +65,5 @@ module _ {p n : ℕ} {x u y v z r x₁ y₁ r₁ x₂ y₂ r₂ x₃ y₃ r₃ :
 
     pub thirds-product : {after : List ℕ} → after ≡ sets z₃ 0 (tabulate n (woven p n r₃)) → take n after ≡ cutProduct p n x y
     thirds-product woven-after =
-        front-sets n z₃ (tabulate n (woven p n r₃)) woven-after (length-tabulate n _) (omega (arith, room .target))
+        front-sets n z₃ (tabulate n (woven p n r₃)) woven-after (length-tabulate n _) (omega (arith, room .lists .target))
         ∙ rule (room .modulus) n x y r₃ even-product odd-product sum-product

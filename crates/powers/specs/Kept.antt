@@ -30,6 +30,7 @@ use mathlib.Core.Path.{_≡_, ap, _∙_}
 use lib.Count.{leadingZeros, ones, onesIn}
 use lib.ListN.{length}
 use lib.Seq.{sets}
+use Rattle.algebra.specs.Bridge.{length-cutProduct}
 use Rattle.definition.specs.Ranged.{blockLength, cutPower}
 use Rattle.definition.specs.Refusal.{limit}
 use Rattle.definition.specs.Substitution.{cutProduct}
@@ -37,7 +38,7 @@ use Rattle.definition.specs.Weight.{powerProducts}
 use Rattle.product.specs.Segments.{segment, Apart}
 use Rattle.product.specs.Single.{Multiplied, Operands}
 use Rattle.route.specs.Within.{Within, segment-sets, segment-within, within-refl, within-sets, within-trans, within-wider}
-use Rattle.powers.specs.Powers.{cut-power, first-power, length-cutProduct, power-product, power-square}
+use Rattle.powers.specs.Powers.{cut-power, first-power, power-product, power-square}
 
 pub record Holds (p n b : ℕ) (g : List ℕ) (count : ℕ) (w : List ℕ) : Type 0 where
   pub power : (i : ℕ) → i < count → segment w ((i + 1) * n) n ≡ cutPower p n g (b * 2 ^ i)

@@ -1,6 +1,5 @@
 -- Products of powers of the inner list g, modulo p and cut to n places.
 --
---   length-cutProduct   a product that is cut to n places has n places
 --   doubled             b 2^(i + 1) is twice b 2^i
 --   IsPower l n g e a   below x^n the list a is g^e modulo p
 --   first-power         g is its own first power
@@ -13,18 +12,12 @@ use native.Mathlib.Nat.{mul-assoc, pow-suc}
 use native.Mathlib.Omega.{arith}
 use mathlib.Core.List.{List}
 use mathlib.Core.Path.{_≡_, sym}
-use lib.ListN.{length}
 use Rattle.algebra.specs.Agree.{Agree, agree-equal, agree-⊠}
 use Rattle.algebra.specs.Bridge.{cutPower-listed, cutProduct-listed, listed-agree, residue-series, series-listed, series-of}
-use Rattle.algebra.specs.Lists.{length-tabulate}
 use Rattle.algebra.specs.Power.{power, power-1, power-+}
 use Rattle.algebra.specs.Residue.{residues}
 use Rattle.definition.specs.Ranged.{cutPower}
-use Rattle.definition.specs.Substitution.{cutProduct, cutProductAt}
-
-pub length-cutProduct : (p n : ℕ) (a b : List ℕ) → length (cutProduct p n a b) ≡ n
-unfolding cutProduct
-length-cutProduct p n a b = length-tabulate n (cutProductAt p a b)
+use Rattle.definition.specs.Substitution.{cutProduct}
 
 pub doubled : (b i : ℕ) → b * 2 ^ suc i ≡ b * 2 ^ i + b * 2 ^ i
 doubled b i = rw (pow-suc, ← mul-assoc) (omega arith)

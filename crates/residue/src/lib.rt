@@ -13,7 +13,7 @@ pub fn reduced(p: u32, x: u32) -> u32
 }
 
 // A number as a wider one.
-fn wide(x: u32) -> u64
+pub fn wide(x: u32) -> u64
     ensures { λ r. ⌜ r ≡ x ⌝ }
 {
     x as u64

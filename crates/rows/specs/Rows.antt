@@ -7,7 +7,7 @@
 --   IsFour f x i               four places of a list, from i on
 --   FourBelow PlacesBelow      four such factors, and four places of the other list, below a bound
 --   four-below places-below    they are, where all places of the lists are
---   product-below              a product of numbers below 2^31
+--   nearer                     fewer places are left after one more
 --   Factors b n x y            two such lists, their places below b, with room behind n places
 --   factors-below              it holds of every larger bound
 --   fourProducts f y e         four products, one place of y after the other downwards
@@ -77,8 +77,9 @@ places-below h e inside = record {
   place0 = h .place e;
 }
 
-pub product-below : {a b : ℕ} → a < 2 ^ 31 → b < 2 ^ 31 → a * b ≤ (2 ^ 31 - 1) * (2 ^ 31 - 1)
-product-below h k = mul-le-mul {n₂ = 2 ^ 31 - 1} {m₂ = 2 ^ 31 - 1} (omega arith) (omega arith)
+-- the places left, one later
+pub nearer : {n t : ℕ} → t < n → n - (t + 1) < n - t
+nearer h = omega arith
 
 -- four products, the places of y taken downwards
 abbrev pub fourProducts : Four → List ℕ → ℕ → ℕ

@@ -8,13 +8,6 @@ ghost use Rattle.definition.specs.Substitution.{cutProduct};
 ghost use Rattle.rows.specs.Rows.{Factors, Summed};
 ghost use Rattle.schoolbook.specs.Remainders.{lowPart, remainderList, residueList, Small};
 
-// A number as a wider one.
-fn wide(x: u32) -> u64
-    ensures { λ r. ⌜ r ≡ x ⌝ }
-{
-    x as u64
-}
-
 // The n places from `at` on become those of x modulo p.
 fn widen(p: u32, n: usize, x: &[u32], at: usize, into: &mut [u64])
     requires { ⌜ (0 < p) × (n ≤ length (now x)) × (at + n ≤ length (now into)) ⌝ }
@@ -22,7 +15,7 @@ fn widen(p: u32, n: usize, x: &[u32], at: usize, into: &mut [u64])
 {
     let mut i = 0;
     while i < n {
-        into[at + i] = wide(residue::reduced(p, x[i]));
+        into[at + i] = residue::wide(residue::reduced(p, x[i]));
         i += 1;
     }
 }
@@ -72,7 +65,7 @@ fn remainders(p: u32, n: usize, sums: &[u64], high: &[u64], z: &mut [u32])
     requires { ⌜ (0 < p) × Small n (now sums) (now high) × (n ≤ length (now z)) ⌝ }
     ensures { λ r. ⌜ now (z .exit) ≡ sets (now (z .entry)) 0 (remainderList p n (now (sums .entry)) (now (high .entry))) ⌝ }
 {
-    let m = wide(p);
+    let m = residue::wide(p);
     let first = 4294967296 % m;
     let second = first * first % m;
     let mut k = 0;

@@ -54,12 +54,14 @@ cut-product-requires c κs =
     let second = c .before .before .before .before .before .before .before .before in
     record {
       modulus = start .pre .0 .modulus;
-      left = omega (arith, first .load .kept .1 .1 .1 .0, start .pre .1 .left);
-      left-parts = start .pre .1 .left-parts;
-      right = omega (arith, second .load2 .kept .1 .1 .1 .0, start .pre .1 .right);
-      right-parts = start .pre .1 .right-parts;
-      target = start .pre .1 .target;
-      products = start .pre .1 .products;
+      lists = record {
+        left = omega (arith, first .load .kept .1 .1 .1 .0, start .pre .1 .left);
+        left-parts = start .pre .1 .left-parts;
+        right = omega (arith, second .load2 .kept .1 .1 .1 .0, start .pre .1 .right);
+        right-parts = start .pre .1 .right-parts;
+        target = start .pre .1 .target;
+        products = start .pre .1 .products;
+      };
       left-residues = loaded-residues (start .pre .0 .modulus) _ _ _ (first .load .ensures) (omega (arith, start .pre .1 .left));
       right-residues = loaded-residues (start .pre .0 .modulus) _ _ _ (second .load2 .ensures) (omega (arith, start .pre .1 .right));
     }

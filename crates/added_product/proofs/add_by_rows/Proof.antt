@@ -6,9 +6,10 @@ use Prim.Native.Nat.{_≤_}
 use mathlib.Core.Path.{_≡_, ap, _∙_}
 use lib.ListN.{length, take, drop, replicate, length-replicate}
 use lib.Seq.{sets}
+use Rattle.algebra.specs.Bridge.{length-cutProduct}
 use Rattle.definition.specs.Substitution.{cutProduct}
 use Rattle.buffer.specs.Written.{front-sets}
-use Rattle.added_product.specs.Added.{added-joined, length-cutProduct, residues-product}
+use Rattle.added_product.specs.Added.{added-joined, residues-product}
 use Rattle.added_product.proofs.add_by_rows.Statement.{statement}
 use Rattle.added_product.proofs.add_by_rows.Tie as tie
 

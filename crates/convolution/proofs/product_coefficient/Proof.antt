@@ -5,7 +5,7 @@ use Prim.Native.Nat.{ℕ, suc, _+_, _*_, _-_, _≤_, _^_}
 use mathlib.Core.Path.{_≡_, _∙_}
 use Rattle.definition.specs.Lists.{coefficient}
 use Rattle.definition.specs.Substitution.{product, productTerm}
-use Rattle.convolution.specs.Halves.{Halves, small-product, halves-first, halves-next, halves-total, halves-low, halves-high}
+use Rattle.convolution.specs.Halves.{Halves, product-below, halves-first, halves-next, halves-total, halves-low, halves-high}
 use Rattle.convolution.proofs.product_coefficient.Statement.{statement}
 use Rattle.convolution.proofs.product_coefficient.Tie as tie
 
@@ -51,7 +51,7 @@ fits : (c : tie.After-wide3 Inv-loop μ-loop) → term c ≤ (2 ^ 32 - 1) * (2 ^
 fits c =
     let start = at c .before .before .before .before in
     rw (c .before .before .wide2 .ensures, c .wide3 .ensures)
-    (small-product (c .before .before .before .shared-slice-known3 .given (at c .loop .i) .fits)
+    (product-below (c .before .before .before .shared-slice-known3 .given (at c .loop .i) .fits)
     (c .before .shared-slice-known4 .given (start .args .k - at c .loop .i) .fits))
 
 mul-z : tie.Need-mul-z Inv-loop μ-loop

@@ -5,7 +5,7 @@ use native.Mathlib.Omega.{arith}
 use Prim.Native.Nat.{ℕ, _+_, _-_, _<_, _≤_, _^_}
 use lib.ListN.{length}
 use mathlib.Core.Path.{_≡_, refl}
-use Rattle.rows.specs.Rows.{Pass, eight-rows, four-below, pass-first, pass-fits, pass-last, pass-next, places-below}
+use Rattle.rows.specs.Rows.{Pass, eight-rows, four-below, nearer, pass-first, pass-fits, pass-last, pass-next, places-below}
 use Rattle.rows.proofs.add_eight_rows.Statement.{statement}
 use Rattle.rows.proofs.add_eight_rows.Tie as tie
 use Rattle.std.proofs.num.wrapping_add_u64.Reads as wrapping-add-u64-reads
@@ -36,9 +36,6 @@ start c = c .before .before .before .before .before .before .before
 
 few : (c : tie.At-loop Inv-loop μ-loop) → start c .args .i ≤ 2 ^ 30
 few c = omega (arith, start c .pre .0 .order, start c .pre .1)
-
-nearer : {n t : ℕ} → t < n → n - (t + 1) < n - t
-nearer h = omega arith
 
 sub-eight-products : tie.Need-sub-eight-products Inv-loop μ-loop
 sub-eight-products c = search needs

@@ -4,7 +4,7 @@ use native.Mathlib.Omega.{arith}
 use Prim.Native.Nat.{ℕ, _+_, _-_, _<_, _≤_, _^_}
 use lib.ListN.{length}
 use mathlib.Core.Path.{_≡_, refl}
-use Rattle.rows.specs.Rows.{Pass, four-rows, four-below, pass-first, pass-fits, pass-last, pass-next, places-below}
+use Rattle.rows.specs.Rows.{Pass, four-rows, four-below, nearer, pass-first, pass-fits, pass-last, pass-next, places-below}
 use Rattle.rows.proofs.add_four_rows.Statement.{statement}
 use Rattle.rows.proofs.add_four_rows.Tie as tie
 use Rattle.std.proofs.num.wrapping_add_u64.Reads as wrapping-add-u64-reads
@@ -32,9 +32,6 @@ few c = omega (arith, start c .pre .0 .order, start c .pre .1)
 
 reach : {i t : ℕ} → i ≤ t → i + (t - i + 4) ≡ t + 4
 reach h = omega arith
-
-nearer : {n t : ℕ} → t < n → n - (t + 1) < n - t
-nearer h = omega arith
 
 sub-four-products : tie.Need-sub-four-products Inv-loop μ-loop
 sub-four-products c = search needs

@@ -1,12 +1,12 @@
 -- `rows::times` meets its contract: a number of 32 bits is its own remainder. Assumes nothing.
 use native.Mathlib.Nat.{mod-eq-of-lt}
 use native.Mathlib.Omega.{arith}
-use Rattle.convolution.specs.Halves.{small-product}
+use Rattle.convolution.specs.Halves.{product-below}
 use Rattle.rows.proofs.times.Statement.{statement}
 use Rattle.rows.proofs.times.Tie as tie
 
 mul-result : tie.Need-mul-result
-mul-result c = record { fits = rw (mod-eq-of-lt (c .pre .0), mod-eq-of-lt (c .pre .1)) (omega (arith, small-product (c .pre .0) (c .pre .1))) }
+mul-result c = record { fits = rw (mod-eq-of-lt (c .pre .0), mod-eq-of-lt (c .pre .1)) (omega (arith, product-below (c .pre .0) (c .pre .1))) }
 
 returns : tie.Need-returns
 returns c = rw (mod-eq-of-lt (c .pre .0), mod-eq-of-lt (c .pre .1))

@@ -5,7 +5,7 @@ use native.Mathlib.Omega.{arith}
 use Prim.Native.Nat.{_-_, _%_, _<_, _^_}
 use mathlib.Core.Path.{refl, _∙_}
 use Rattle.buffer.specs.Filling.{Filling, filling-first, filling-last, filling-next}
-use Rattle.convolution.specs.Halves.{small-product}
+use Rattle.convolution.specs.Halves.{product-below}
 use Rattle.definition.specs.Lists.{coefficient}
 use Rattle.schoolbook.specs.Remainders.{remainderAt, remainderList, second-power}
 use Rattle.schoolbook.proofs.remainders.Statement.{statement}
@@ -28,7 +28,7 @@ first : (c : tie.After-wide Inv-loop μ-loop) → 2 ^ 32 % c .wide .result < 2 ^
 first c = omega (arith, mod-lt (2 ^ 32) {m = c .wide .result} (omega arith))
 
 mul-second : tie.Need-mul-second Inv-loop μ-loop
-mul-second c = omega (arith, small-product (first c) (first c))
+mul-second c = omega (arith, product-below (first c) (first c))
 
 rem-second : tie.Need-rem-second Inv-loop μ-loop
 rem-second c = search needs
