@@ -1,42 +1,18 @@
 -- `residue::sum` meets its contract. Assumes nothing.
 use borrow.Author.Needs.{needs}
-use native.Mathlib.Nat.{mod-lt}
-use native.Mathlib.Omega.{arith}
-use Prim.Native.Nat.{_+_}
+use mathlib.Core.Path.{_∙_}
+use Rattle.residue.specs.Residue.{sum-difference}
 use Rattle.residue.proofs.sum.Statement.{statement}
 use Rattle.residue.proofs.sum.Tie as tie
 
-wide-requires : tie.Need-wide-requires
-wide-requires c κs = search needs
+sub-difference : tie.Need-sub-difference
+sub-difference c = search needs
 
-wide-requires-2 : tie.Need-wide-requires-2
-wide-requires-2 c κs = search needs
-
-add-result : tie.Need-add-result
-add-result c = search needs
-
-over-requires : tie.Need-over-requires
-over-requires c κs = search needs
-
-sub-result : tie.Need-sub-result
-sub-result c = search needs
-
-cast-result : tie.Need-cast-result
-cast-result c =
-    let start = c .before .before .before in
-    omega (arith, mod-lt (start .args .a + start .args .b) {m = start .args .p} (omega arith))
+difference-requires : tie.Need-difference-requires
+difference-requires c κs = search needs
 
 returns : tie.Need-returns
-returns c = search needs
+returns c = c .difference .ensures ∙ sum-difference (c .before .pre .0) (c .before .pre .1)
 
 pub sum-spec : {M : Type 1} → statement M
-sum-spec =
-    tie.close
-    (tie.spec
-    wide-requires
-    wide-requires-2
-    add-result
-    over-requires
-    sub-result
-    cast-result
-    returns)
+sum-spec = tie.close (tie.spec sub-difference difference-requires returns)
