@@ -2,8 +2,8 @@
 // modulo p, cut to n places, where A and B are the n places from a and from b on. The factors are read before the target is written, so
 // that the parts may lie in any way. There is a function for each range of lengths, and the caller chooses.
 ghost use mathlib.Core.Path.{_≡_};
-ghost use Prim.Native.Nat.{_+_, _*_, _<_, _≤_};
-ghost use lib.ListN.{length, take, drop};
+ghost use Prim.Native.Nat.{_+_, _<_, _≤_};
+ghost use lib.ListN.{length};
 ghost use lib.Seq.{sets};
 ghost use Rattle.definition.specs.Lists.{tabulate};
 ghost use Rattle.karatsuba.specs.Room.{Lists};
@@ -49,7 +49,7 @@ pub fn add_by_rows(p: u32, n: usize, w: &mut [u32], a: usize, b: usize, t: usize
 }
 
 // For more places: the product by halves, in the six lists.
-fn add_by_halves(
+pub fn add_by_halves(
     p: u32,
     n: usize,
     w: &mut [u32],
@@ -72,85 +72,4 @@ fn add_by_halves(
     load(p, n, &w[b..end_b], y);
     karatsuba::cut_product(p, n, x, u, y, v, z, r);
     add_places(p, n, z, w, t);
-}
-
-// By halves for at most 256 places. Lists are cleared when they are made, so that few places take short lists.
-pub fn add_up_to_256(p: u32, n: usize, w: &mut [u32], a: usize, b: usize, t: usize)
-    requires { ⌜ Parts p n a b t (now w) × (n ≤ 256) ⌝ }
-    ensures { λ r. ⌜ Added p n a b t (now (w .entry)) (now (w .exit)) ⌝ }
-{
-    let mut x: [u32; 384] = [0; 384];
-    let mut u: [u32; 224] = [0; 224];
-    let mut y: [u32; 384] = [0; 384];
-    let mut v: [u32; 224] = [0; 224];
-    let mut z: [u32; 544] = [0; 544];
-    let mut r: [u32; 544] = [0; 544];
-    add_by_halves(
-        p,
-        n,
-        w,
-        a,
-        b,
-        t,
-        &mut x,
-        &mut u,
-        &mut y,
-        &mut v,
-        &mut z,
-        &mut r,
-    );
-}
-
-// The same for at most 1024 places.
-pub fn add_up_to_1024(p: u32, n: usize, w: &mut [u32], a: usize, b: usize, t: usize)
-    requires { ⌜ Parts p n a b t (now w) × (n ≤ 1024) ⌝ }
-    ensures { λ r. ⌜ Added p n a b t (now (w .entry)) (now (w .exit)) ⌝ }
-{
-    let mut x: [u32; 1536] = [0; 1536];
-    let mut u: [u32; 896] = [0; 896];
-    let mut y: [u32; 1536] = [0; 1536];
-    let mut v: [u32; 896] = [0; 896];
-    let mut z: [u32; 2176] = [0; 2176];
-    let mut r: [u32; 2176] = [0; 2176];
-    add_by_halves(
-        p,
-        n,
-        w,
-        a,
-        b,
-        t,
-        &mut x,
-        &mut u,
-        &mut y,
-        &mut v,
-        &mut z,
-        &mut r,
-    );
-}
-
-// The same for at most 4096 places.
-pub fn add_up_to_4096(p: u32, n: usize, w: &mut [u32], a: usize, b: usize, t: usize)
-    requires { ⌜ Parts p n a b t (now w) ⌝ }
-    ensures { λ r. ⌜ Added p n a b t (now (w .entry)) (now (w .exit)) ⌝ }
-{
-    let mut x: [u32; 6144] = [0; 6144];
-    let mut u: [u32; 3584] = [0; 3584];
-    let mut y: [u32; 6144] = [0; 6144];
-    let mut v: [u32; 3584] = [0; 3584];
-    let mut z: [u32; 8704] = [0; 8704];
-    let mut r: [u32; 8704] = [0; 8704];
-    add_by_halves(
-        p,
-        n,
-        w,
-        a,
-        b,
-        t,
-        &mut x,
-        &mut u,
-        &mut y,
-        &mut v,
-        &mut z,
-        &mut r,
-    );
 }

@@ -17,7 +17,7 @@ use Rattle.algebra.specs.Prime.{prime-positive}
 use Rattle.bernstein.specs.Level.{Joined, Room, nextAt}
 use Rattle.buffer.specs.Written.{length-part}
 use Rattle.definition.specs.Ranged.{joined, joinedAt}
-use Rattle.product.specs.Segments.{segment}
+use Rattle.buffer.specs.Segments.{segment}
 use Rattle.product.specs.Single.{MultipliedAdd, Operands, addedProduct}
 use Rattle.route.specs.Within.{Within, within-trans, within-sets, segment-sets}
 

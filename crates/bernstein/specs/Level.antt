@@ -28,7 +28,7 @@ use Rattle.definition.specs.Ranged.{joined}
 use Rattle.definition.specs.Refusal.{limit}
 use Rattle.definition.specs.Substitution.{composed}
 use Rattle.definition.specs.Weight.{bernsteinWeight}
-use Rattle.product.specs.Segments.{segment}
+use Rattle.buffer.specs.Segments.{segment}
 use Rattle.route.specs.Table.{written-table}
 use Rattle.route.specs.Within.{Within, within-trans, within-wider, within-sets, segment-within, segment-sets}
 

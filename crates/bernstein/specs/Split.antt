@@ -44,7 +44,7 @@ use Rattle.definition.specs.Prime.{Prime}
 use Rattle.definition.specs.Ranged.{joined}
 use Rattle.definition.specs.Substitution.{composed, composedAt, substituted}
 use Rattle.parts.specs.Steps.{coefficient-powers}
-use Rattle.product.specs.Segments.{coefficient-segment}
+use Rattle.buffer.specs.Segments.{coefficient-segment}
 
 abbrev pub composedPart : ℕ → ℕ → List ℕ → List ℕ → ℕ → List ℕ
 composedPart p n f g j = composed p (ceilDiv n p) (part p j f) (pthPowers p (take (ceilDiv n p) g))

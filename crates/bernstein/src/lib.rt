@@ -12,7 +12,7 @@ ghost use Rattle.definition.specs.Lists.{ceilDiv};
 ghost use Rattle.definition.specs.Prime.{Prime};
 ghost use Rattle.definition.specs.Substitution.{composed};
 ghost use Rattle.definition.specs.Weight.{bernsteinWeight};
-ghost use Rattle.product.specs.Segments.{segment};
+ghost use Rattle.buffer.specs.Segments.{segment};
 ghost use Rattle.route.specs.Contract.{Lent, Route};
 ghost use Rattle.bernstein.specs.Level.{Joined, Level, PartReady, PartValue, Room, restAt};
 

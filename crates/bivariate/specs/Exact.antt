@@ -38,7 +38,7 @@ use Rattle.definition.specs.Bernstein.{spread}
 use Rattle.definition.specs.KinoshitaLi.{evenPart, negative, opposite, plane, planeAt, planePlace, squared, window}
 use Rattle.definition.specs.Lists.{ceilDiv, coefficient, tabulate}
 use Rattle.product.specs.Planes.{held}
-use Rattle.product.specs.Segments.{coefficient-segment, segment}
+use Rattle.buffer.specs.Segments.{coefficient-segment, segment}
 use Rattle.product.specs.declared.Rows.{Rows}
 
 pub planeAt-exact : (r c : ℕ) (a : ℕ → ℕ → ℕ) → ((j i : ℕ) → r ≤ i → a j i ≡ 0) → ((j i : ℕ) → c ≤ j → a j i ≡ 0)

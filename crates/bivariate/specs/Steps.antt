@@ -17,7 +17,7 @@ use Rattle.definition.specs.KinoshitaLi.{denominator}
 use Rattle.definition.specs.Lists.{coefficient}
 use Rattle.definition.specs.Substitution.{constant}
 use Rattle.product.specs.Planes.{held}
-use Rattle.product.specs.Segments.{Apart, segment, coefficient-segment}
+use Rattle.buffer.specs.Segments.{Apart, segment, coefficient-segment}
 use Rattle.product.specs.declared.Rows.{Rows}
 
 abbrev pub Source : ℕ → Rows → ℕ → ℕ → List ℕ → Type 0

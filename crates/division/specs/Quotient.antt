@@ -23,7 +23,7 @@ use Rattle.buffer.specs.Written.{getD-sets-after, getD-sets-inside, sets-snoc}
 use Rattle.definition.specs.KinoshitaLi.{negative, quotient, quotientNext, quotientTerm}
 use Rattle.definition.specs.Lists.{coefficient, sum, tabulate}
 use Rattle.definition.specs.Substitution.{product, productTerm}
-use Rattle.product.specs.Segments.{segment, coefficient-segment}
+use Rattle.buffer.specs.Segments.{segment, coefficient-segment}
 use Rattle.route.specs.Table.{written-table}
 use Rattle.route.specs.Within.{Within, within-sets, within-trans, within-wider, segment-sets, segment-within}
 

@@ -6,7 +6,7 @@ ghost use lib.ListN.{length};
 ghost use lib.Seq.{sets};
 ghost use Rattle.definition.specs.KinoshitaLi.{numerator};
 ghost use Rattle.definition.specs.Lists.{coefficient, tabulate};
-ghost use Rattle.product.specs.Segments.{Apart, segment};
+ghost use Rattle.buffer.specs.Segments.{Apart, segment};
 ghost use Rattle.division.specs.Quotient.{Divided, complement};
 
 // Writes P, f's list reversed, from place t of w on.

@@ -25,7 +25,7 @@ use Rattle.definition.specs.Refusal.{limit}
 use Rattle.definition.specs.Substitution.{composed, constant, hornerStep}
 use Rattle.definition.specs.Weight.{hornerWeight}
 use Rattle.horner.specs.Step.{Stepped, length-step}
-use Rattle.product.specs.Segments.{segment, Apart, apart-length, apart-within}
+use Rattle.buffer.specs.Segments.{segment, Apart, apart-length, apart-within}
 use Rattle.product.specs.Single.{Operands}
 use Rattle.route.specs.Table.{written-table}
 use Rattle.route.specs.Within.{Within, within-refl, within-sets, within-trans, segment-sets, segment-within}

@@ -13,7 +13,7 @@ use Rattle.algebra.specs.Lists.{coefficient-tabulate, length-tabulate, tabulate
 use Rattle.definition.specs.Lists.{tabulate}
 use Rattle.definition.specs.Ranged.{joined, joinedAt}
 use Rattle.definition.specs.Substitution.{constant, hornerStep, hornerStepAt}
-use Rattle.product.specs.Segments.{segment}
+use Rattle.buffer.specs.Segments.{segment}
 use Rattle.product.specs.Single.{Operands, MultipliedAdd, added-over}
 
 pub record Stepped (p n c s b t : ℕ) (before after : List ℕ) (result : ℕ) : Type 0 where

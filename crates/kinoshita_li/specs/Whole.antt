@@ -27,7 +27,7 @@ use Rattle.definition.specs.Lists.{tabulate}
 use Rattle.definition.specs.Refusal.{composeWork, limit}
 use Rattle.definition.specs.Substitution.{composed, constant}
 use Rattle.definition.specs.Weight.{halvings, kinoshitaLiWeight}
-use Rattle.product.specs.Segments.{segment}
+use Rattle.buffer.specs.Segments.{segment}
 use Rattle.route.specs.Contract.{Lent, Route, route-moved}
 use Rattle.route.specs.Table.{written-table}
 use Rattle.route.specs.Within.{Within, segment-sets, within-sets, within-wider}

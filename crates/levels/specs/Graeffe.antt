@@ -21,7 +21,7 @@ use Rattle.definition.specs.KinoshitaLi.{cutProduct2At, evenPart, opposite, pla
 use Rattle.definition.specs.Lists.{ceilDiv}
 use Rattle.product.specs.Double.{productOf}
 use Rattle.product.specs.Planes.{held, held-kept}
-use Rattle.product.specs.Segments.{segment, length-segment}
+use Rattle.buffer.specs.Segments.{segment, length-segment}
 use Rattle.product.specs.declared.Rows.{Rows}
 use Rattle.route.specs.Within.{Within, within-sets, within-trans, within-wider, segment-sets, segment-within}
 use Rattle.bivariate.specs.Exact.{even-plane, opposite-exact, squared-exact, window-0}

@@ -24,7 +24,7 @@ use Rattle.definition.specs.Lists.{ceilDiv, coefficient}
 use Rattle.definition.specs.Refusal.{limit}
 use Rattle.definition.specs.Weight.{degreeBound, kinoshitaLiLevels}
 use Rattle.product.specs.Planes.{held}
-use Rattle.product.specs.Segments.{segment, segment-segment}
+use Rattle.buffer.specs.Segments.{segment, segment-segment}
 use Rattle.product.specs.declared.Rows.{Rows}
 use Rattle.route.specs.Within.{Within, rest-back, rest-lent, within-rest, within-sets, within-trans, within-wider, segment-rest, segment-sets, segment-within}
 use Rattle.division.specs.Quotient.{Divided, length-quotient}

@@ -25,7 +25,7 @@ use Rattle.definition.specs.Lists.{coefficient, tabulate}
 use Rattle.definition.specs.Refusal.{composeWork}
 use Rattle.definition.specs.Reversion.{identity, identityAt}
 use Rattle.definition.specs.Substitution.{composed, composedAt, constant, cutProduct}
-use Rattle.product.specs.Segments.{Apart, segment, coefficient-segment, segment-kept}
+use Rattle.buffer.specs.Segments.{Apart, segment, coefficient-segment, segment-kept}
 use Rattle.product.specs.Single.{Multiplied, Operands}
 use Rattle.newton_step.specs.Newton.{derivative, difference, differenceAt, error, newtonStep}
 use Rattle.route.specs.Contract.{Lent, Route}

@@ -5,7 +5,7 @@ ghost use Prim.Native.Nat.{_+_, _<_, _≤_};
 ghost use lib.ListN.{length};
 ghost use lib.Seq.{sets};
 ghost use Rattle.definition.specs.Refusal.{limit};
-ghost use Rattle.product.specs.Segments.{segment};
+ghost use Rattle.buffer.specs.Segments.{segment};
 ghost use Rattle.newton_step.specs.Newton.{derivative, difference};
 ghost use Rattle.newton_step.specs.Step.{ErrorPut, Stepped};
 ghost use Rattle.route.specs.Contract.{Lent};

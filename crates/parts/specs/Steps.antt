@@ -21,7 +21,7 @@ use Rattle.buffer.specs.Written.{length-part}
 use Rattle.definition.specs.Bernstein.{part, partAt, partCount, pthPowers, pthPowerAt, spread, spreadList}
 use Rattle.definition.specs.Lists.{coefficient, tabulate}
 use Rattle.definition.specs.Prime.{Prime}
-use Rattle.product.specs.Segments.{segment}
+use Rattle.buffer.specs.Segments.{segment}
 
 pub record Parted (p j a m t : ℕ) (before after : List ℕ) (result : ℕ) : Type 0 where
   pub written : after ≡ sets before t (part p j (segment before a m))

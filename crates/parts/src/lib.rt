@@ -7,7 +7,7 @@ ghost use Rattle.definition.specs.Bernstein.{pthPowers, spread, spreadList};
 ghost use Rattle.definition.specs.Lists.{coefficient};
 ghost use Rattle.definition.specs.Prime.{Prime};
 ghost use Rattle.parts.specs.Steps.{Parted};
-ghost use Rattle.product.specs.Segments.{segment, Apart};
+ghost use Rattle.buffer.specs.Segments.{segment, Apart};
 
 // The number of the top part of m places.
 pub fn top_part(p: u32, m: usize) -> usize

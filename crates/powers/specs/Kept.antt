@@ -35,7 +35,7 @@ use Rattle.definition.specs.Ranged.{blockLength, cutPower}
 use Rattle.definition.specs.Refusal.{limit}
 use Rattle.definition.specs.Substitution.{cutProduct}
 use Rattle.definition.specs.Weight.{powerProducts}
-use Rattle.product.specs.Segments.{segment, Apart}
+use Rattle.buffer.specs.Segments.{segment, Apart}
 use Rattle.product.specs.Single.{Multiplied, Operands}
 use Rattle.route.specs.Within.{Within, segment-sets, segment-within, within-refl, within-sets, within-trans, within-wider}
 use Rattle.powers.specs.Powers.{cut-power, first-power, power-product, power-square}

@@ -29,7 +29,7 @@ use Rattle.definition.specs.Lists.{sum, tabulate, coefficient}
 use Rattle.definition.specs.Ranged.{joined, joinedAt}
 use Rattle.definition.specs.Substitution.{product, productTerm}
 use Rattle.product.specs.declared.Rows.{Rows}
-use Rattle.product.specs.Segments.{segment, Apart, apart-length, apart-within}
+use Rattle.buffer.specs.Segments.{segment, Apart, apart-length, apart-within}
 use Rattle.product.specs.Planes.{held, row-held, held-beyond, held-kept, plane-suc}
 use Rattle.product.specs.Single.{Operands, addedProduct, added-over}
 

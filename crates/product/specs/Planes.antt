@@ -19,7 +19,7 @@ use Rattle.algebra.specs.Lists.{tabulate-cong}
 use Rattle.definition.specs.KinoshitaLi.{planeAt, plane, planePlace}
 use Rattle.definition.specs.Lists.{tabulate, coefficient}
 use Rattle.product.specs.declared.Rows.{Rows}
-use Rattle.product.specs.Segments.{segment, Apart, length-segment, segment-kept, segment-segment}
+use Rattle.buffer.specs.Segments.{segment, Apart, length-segment, segment-kept, segment-segment}
 
 abbrev pub held : ℕ → List ℕ → Rows → ℕ → ℕ → ℕ
 held r w a = planeAt r (segment w (a .at) (a .count * r))

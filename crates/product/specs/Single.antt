@@ -1,56 +1,35 @@
 -- Cut products in one variable, on parts of one list.
 --
---   Operands p n a b t w      what `multiply` and `multiply_add` require
---   operands-length           it holds of every list of that length
+--   Operands p n a b t w      what `multiply` and `multiply_add` require (`single_product/Operands`)
 --   Multiplied                the contract of `multiply`
 --   MultipliedAdd             the contract of `multiply_add`
---   addedProduct p n a b t w  its target after the call: the n places from t on, plus the product of those from a and from b on
---   length-joined             a sum with a product has n places
+--   addedProduct p n a b t w  its target after the call (`added_product/Added`)
 --   added-over                it over a target that was written before
 --   added-zeros               it over zeros is the product
 -- Assumes nothing.
-use Prim.Native.Nat.{ℕ, _^_, _<_, _≤_}
+use Prim.Native.Nat.{ℕ}
 use native.Mathlib.Nat.{le-of-eq, le-refl, zero-add}
 use native.Mathlib.Omega.{arith}
 use mathlib.Core.Path.{_≡_, ap, _∙_}
 use mathlib.Core.List.{List}
 use lib.ListN.{length, take, drop, replicate, length-replicate, getD-replicate}
 use lib.Seq.{sets}
-use Rattle.algebra.specs.Lists.{length-tabulate, tabulate-cong}
+use Rattle.algebra.specs.Lists.{tabulate-cong}
+use Rattle.buffer.specs.Segments.{segment, segment-kept}
 use Rattle.buffer.specs.Written.{part-sets, sets-cover}
 use Rattle.definition.specs.Lists.{coefficient}
 use Rattle.definition.specs.Ranged.{joined, joinedAt}
 use Rattle.definition.specs.Substitution.{cutProduct, cutProductAt}
-use Rattle.product.specs.Segments.{segment, Apart, apart-length, segment-kept}
-
-pub record Operands (p n a b t : ℕ) (w : List ℕ) : Type 0 where
-  pub modulus : 0 < p
-  pub order : n ≤ 2 ^ 30
-  pub left : Apart w a n t n
-  pub right : Apart w b n t n
-
-pub operands-length : {p n a b t : ℕ} {v w : List ℕ} → length v ≡ length w → Operands p n a b t w → Operands p n a b t v
-operands-length e o = record {
-  modulus = o .modulus;
-  order = o .order;
-  left = apart-length e (o .left);
-  right = apart-length e (o .right);
-}
+pub use Rattle.added_product.specs.Added.{addedProduct, length-joined}
+pub use Rattle.single_product.specs.Operands.{Operands, operands-length}
 
 pub record Multiplied (p n a b t : ℕ) (before after : List ℕ) (result : ℕ) : Type 0 where
   pub written : after ≡ sets before t (cutProduct p n (segment before a n) (segment before b n))
   pub places : result ≡ n
 
-abbrev pub addedProduct : ℕ → ℕ → ℕ → ℕ → ℕ → List ℕ → List ℕ
-addedProduct p n a b t w = joined p n (segment w t n) (segment w a n) (segment w b n)
-
 pub record MultipliedAdd (p n a b t : ℕ) (before after : List ℕ) (result : ℕ) : Type 0 where
   pub written : after ≡ sets before t (addedProduct p n a b t before)
   pub places : result ≡ n
-
-pub length-joined : (p n : ℕ) (s u v : List ℕ) → length (joined p n s u v) ≡ n
-unfolding joined
-length-joined p n s u v = length-tabulate n (joinedAt p s u v)
 
 joined-zeros : (p n : ℕ) (u v : List ℕ) → joined p n (replicate n 0) u v ≡ cutProduct p n u v
 unfolding joined joinedAt cutProduct cutProductAt coefficient

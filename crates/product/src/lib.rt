@@ -1,11 +1,9 @@
 // Cut products modulo p, on parts of one lent buffer. Each gives back the number of places that it is cut to, as a weight, which only this crate
 // makes: a route's weight can then be nothing but a sum of what products gave back.
 ghost use mathlib.Core.Path.{_≡_};
-ghost use Prim.Native.Nat.{_+_, _*_, _<_, _≤_, _^_};
-ghost use lib.ListN.{drop};
-ghost use lib.Seq.{sets};
+ghost use Prim.Native.Nat.{_+_, _*_, _<_, _^_};
 ghost use Rattle.product.specs.Double.{MultipliedRow, MultipliedRows, RowOperands};
-ghost use Rattle.product.specs.Single.{Multiplied, MultipliedAdd, Operands, addedProduct};
+ghost use Rattle.product.specs.Single.{Multiplied, MultipliedAdd, Operands};
 
 // A polynomial in x and y in a buffer: `count` rows, one after the other from place `at` on, row j for y^j. Later rows are zero.
 pub struct Rows {
@@ -44,53 +42,12 @@ impl Weight {
     }
 }
 
-// The n places from t on become they + A B modulo p, cut to n places, where A and B are the n places from a and from b on; but only those from
-// place `first` on are written. Coefficient by coefficient: the quickest way for few places, and for any number of them.
-fn add_coefficients(p: u32, n: usize, w: &mut [u32], a: usize, b: usize, t: usize, first: usize)
-    requires { ⌜ Operands p n a b t (now w) × (first ≤ n) ⌝ }
-    ensures { λ r. ⌜ now (w .exit) ≡ sets (now (w .entry)) (t + first) (drop first (addedProduct p n a b t (now (w .entry)))) ⌝ }
-{
-    let end_a = a + n;
-    let end_b = b + n;
-    let mut k = first;
-    while k < n {
-        let c = w[t + k];
-        w[t + k] = convolution::product_coefficient(p, c, &w[a..end_a], &w[b..end_b], k);
-        k += 1;
-    }
-}
-
-// The same for all n places, in the way that is quickest for so many. Above 4096 places the first half of them, rounded to a multiple of 4096,
-// is taken this way, so that in the end the first 4096 are, and the rest coefficient by coefficient. The lists of the callees are not part of
-// this function's own frame: the compiler does not inline functions with large lists into one that calls itself. It must call itself with a
-// number that is not known beforehand: with 4096 the compiler makes a copy for that number, and the call of itself is gone.
-fn add_product(p: u32, n: usize, w: &mut [u32], a: usize, b: usize, t: usize)
-    requires { ⌜ Operands p n a b t (now w) ⌝ }
-    ensures { λ r. ⌜ now (w .exit) ≡ sets (now (w .entry)) t (addedProduct p n a b t (now (w .entry))) ⌝ }
-{
-    if n <= 20 {
-        add_coefficients(p, n, w, a, b, t, 0);
-    } else if n <= 128 {
-        added_product::add_by_rows(p, n, w, a, b, t);
-    } else if n <= 256 {
-        added_product::add_up_to_256(p, n, w, a, b, t);
-    } else if n <= 1024 {
-        added_product::add_up_to_1024(p, n, w, a, b, t);
-    } else if n <= 4096 {
-        added_product::add_up_to_4096(p, n, w, a, b, t);
-    } else {
-        let front = (n + 4095) / 8192 * 4096;
-        add_product(p, front, w, a, b, t);
-        add_coefficients(p, n, w, a, b, t, front);
-    }
-}
-
 // The n places from t on become they + A B modulo p, cut to n places, where A and B are the n places from a and from b on.
 pub fn multiply_add(p: u32, n: usize, w: &mut [u32], a: usize, b: usize, t: usize) -> Weight
     requires { ⌜ Operands p n a b t (now w) ⌝ }
     ensures { λ r. ⌜ MultipliedAdd p n a b t (now (w .entry)) (now (w .exit)) (r .places) ⌝ }
 {
-    add_product(p, n, w, a, b, t);
+    single_product::add_product(p, n, w, a, b, t);
     Weight { places: n as u64 }
 }
 

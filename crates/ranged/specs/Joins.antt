@@ -29,7 +29,7 @@ use Rattle.definition.specs.Refusal.{limit}
 use Rattle.definition.specs.Substitution.{composed}
 use Rattle.definition.specs.Weight.{hornerWeight}
 use Rattle.horner.specs.Part.{Part, PartOperands}
-use Rattle.product.specs.Segments.{segment}
+use Rattle.buffer.specs.Segments.{segment}
 use Rattle.product.specs.Single.{MultipliedAdd, Operands, addedProduct, length-joined}
 use Rattle.route.specs.Within.{Within, segment-sets, segment-within, within-sets, within-trans, within-wider}
 use Rattle.powers.specs.Kept.{Holds, holds-within, next-place}

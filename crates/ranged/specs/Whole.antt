@@ -21,7 +21,7 @@ use Rattle.definition.specs.Lists.{ceilDiv}
 use Rattle.definition.specs.Refusal.{limit}
 use Rattle.definition.specs.Substitution.{composed}
 use Rattle.definition.specs.Weight.{halvings, rangedWeight}
-use Rattle.product.specs.Segments.{segment}
+use Rattle.buffer.specs.Segments.{segment}
 use Rattle.route.specs.Contract.{Lent}
 use Rattle.route.specs.Within.{Within, segment-within, within-trans, within-wider}
 use Rattle.ranged.specs.Joins.{SpanOperands, SpanPart, span-small}

@@ -23,7 +23,7 @@ use Rattle.definition.specs.Answer.{cleared}
 use Rattle.definition.specs.Lists.{coefficient, tabulate}
 use Rattle.definition.specs.Refusal.{composeWork, limit}
 use Rattle.definition.specs.Substitution.{composed}
-use Rattle.product.specs.Segments.{segment}
+use Rattle.buffer.specs.Segments.{segment}
 use Rattle.route.specs.Table.{written-table}
 use Rattle.route.specs.Within.{Within, cleared-within, segment-sets, within-sets, within-trans, within-wider}
 

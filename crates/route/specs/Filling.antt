@@ -13,7 +13,7 @@ use Rattle.buffer.specs.Filling.{Filling}
 use Rattle.definition.specs.KinoshitaLi.{planeAt}
 use Rattle.definition.specs.Lists.{coefficient, tabulate}
 use Rattle.product.specs.Planes.{held}
-use Rattle.product.specs.Segments.{Apart, segment, coefficient-segment, segment-kept}
+use Rattle.buffer.specs.Segments.{Apart, segment, coefficient-segment, segment-kept}
 use Rattle.product.specs.declared.Rows.{Rows}
 
 module _ {f : ℕ → ℕ} {t n : ℕ} {before now : List ℕ} {k : ℕ} (filling : Filling f t n before now k) where

@@ -13,7 +13,7 @@ use Rattle.algebra.specs.Lists.{length-tabulate, table-of}
 use Rattle.buffer.specs.Written.{sets-set}
 use Rattle.definition.specs.Lists.{coefficient, tabulate}
 use Rattle.definition.specs.Substitution.{constant}
-use Rattle.product.specs.Segments.{segment}
+use Rattle.buffer.specs.Segments.{segment}
 use Rattle.route.specs.Within.{segment-sets}
 
 module _ (w : List ℕ) (t : ℕ) (f : ℕ → ℕ) where

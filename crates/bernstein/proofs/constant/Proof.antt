@@ -7,7 +7,7 @@ use mathlib.Core.Path.{_≡_, _∙_}
 use lib.ListN.{length}
 use Rattle.algebra.specs.Composition.{composed-constant}
 use Rattle.definition.specs.Lists.{coefficient}
-use Rattle.product.specs.Segments.{segment, length-segment}
+use Rattle.buffer.specs.Segments.{segment, length-segment}
 use Rattle.bernstein.proofs.constant.Statement.{statement}
 use Rattle.bernstein.proofs.constant.Tie as tie
 

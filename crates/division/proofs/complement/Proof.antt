@@ -6,7 +6,7 @@ use lib.Seq.{length-take-le}
 use mathlib.Core.Path.{sym, _∙_}
 use Rattle.buffer.specs.Filling.{Filling, filling-first, filling-last, filling-next}
 use Rattle.definition.specs.Lists.{coefficient}
-use Rattle.product.specs.Segments.{segment}
+use Rattle.buffer.specs.Segments.{segment}
 use Rattle.division.specs.Quotient.{complement}
 use Rattle.route.specs.Filling.{filling-kept}
 use Rattle.division.proofs.complement.Statement.{statement}

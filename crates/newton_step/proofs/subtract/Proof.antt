@@ -4,7 +4,7 @@ use native.Mathlib.Omega.{arith}
 use Prim.Native.Nat.{_-_}
 use lib.ListN.{length}
 use Rattle.buffer.specs.Filling.{Filling, filling-first}
-use Rattle.product.specs.Segments.{segment}
+use Rattle.buffer.specs.Segments.{segment}
 use Rattle.newton_step.specs.Newton.{differenceAt}
 use Rattle.newton_step.specs.Step.{subtract-last, subtract-next}
 use Rattle.newton_step.proofs.subtract.Statement.{statement}

@@ -7,7 +7,7 @@ use mathlib.Core.Path.{_∙_}
 use Rattle.buffer.specs.Filling.{Filling, filling-first, filling-last, filling-next}
 use Rattle.buffer.specs.Written.{length-part}
 use Rattle.definition.specs.Bernstein.{part, partAt, partCount}
-use Rattle.product.specs.Segments.{Apart, segment, apart-within}
+use Rattle.buffer.specs.Segments.{Apart, segment, apart-within}
 use Rattle.route.specs.Filling.{filling-place}
 use Rattle.parts.specs.Counts.{part-place}
 use Rattle.parts.proofs.part.Statement.{statement}

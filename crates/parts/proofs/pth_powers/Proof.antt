@@ -6,7 +6,7 @@ use mathlib.Core.Path.{ap, _∙_}
 use Rattle.buffer.specs.Filling.{Filling, filling-first, filling-last, filling-next}
 use Rattle.buffer.specs.Written.{length-part}
 use Rattle.definition.specs.Lists.{coefficient}
-use Rattle.product.specs.Segments.{segment}
+use Rattle.buffer.specs.Segments.{segment}
 use Rattle.route.specs.Filling.{filling-place}
 use Rattle.parts.specs.Steps.{pthPowers-reduced}
 use Rattle.parts.proofs.pth_powers.Statement.{statement}

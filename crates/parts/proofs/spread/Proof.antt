@@ -7,7 +7,7 @@ use mathlib.Core.Path.{_∙_}
 use Rattle.buffer.specs.Filling.{Filling, filling-first, filling-last, filling-next}
 use Rattle.definition.specs.Bernstein.{spread, spreadList}
 use Rattle.definition.specs.Lists.{coefficient}
-use Rattle.product.specs.Segments.{segment}
+use Rattle.buffer.specs.Segments.{segment}
 use Rattle.route.specs.Filling.{filling-kept}
 use Rattle.parts.proofs.spread.Statement.{statement}
 use Rattle.parts.proofs.spread.Tie as tie

@@ -1,4 +1,4 @@
--- `product::add_coefficients` meets its contract: before each turn the places from `first` up to k are written, and none that is still to be
+-- `single_product::add_coefficients` meets its contract: before each turn the places from `first` up to k are written, and none that is still to be
 -- read. Assumes nothing.
 use borrow.Author.Needs.{needs}
 use native.Mathlib.Nat.{add-sub-cancel-left}
@@ -6,9 +6,9 @@ use native.Mathlib.Omega.{arith}
 use Prim.Native.Nat.{_-_, _≤_}
 use mathlib.Core.Path.{_≡_, _∙_}
 use lib.ListN.{length}
-use Rattle.product.specs.Long.{addedFrom, from-first, from-last, from-next}
-use Rattle.product.proofs.add_coefficients.Statement.{statement}
-use Rattle.product.proofs.add_coefficients.Tie as tie
+use Rattle.single_product.specs.Long.{addedFrom, from-first, from-last, from-next}
+use Rattle.single_product.proofs.add_coefficients.Statement.{statement}
+use Rattle.single_product.proofs.add_coefficients.Tie as tie
 
 abbrev Inv-loop : tie.InvT-loop
 Inv-loop p n w₀ a b t first end-a end-b k₀ w k =

@@ -15,13 +15,14 @@ use mathlib.Core.Path.{_≡_, sym, ap, _∙_}
 use mathlib.Core.List.{List, _++_}
 use lib.ListN.{length, getD, take, drop, set, length-drop, take-append-drop}
 use lib.Seq.{sets, getD-drop, getD-take, length-take-le, take-all}
+use Rattle.added_product.specs.Added.{addedProduct, length-joined}
 use Rattle.algebra.specs.Lists.{coefficient-tabulate, lists-equal, sum-cong}
 use Rattle.buffer.specs.Written.{getD-sets-after, sets-append, sets-take}
 use Rattle.definition.specs.Lists.{coefficient}
 use Rattle.definition.specs.Ranged.{joined, joinedAt}
 use Rattle.definition.specs.Substitution.{product, productTerm}
-use Rattle.product.specs.Segments.{segment, Apart, apart-within, coefficient-segment, segment-kept}
-use Rattle.product.specs.Single.{Operands, addedProduct, length-joined}
+use Rattle.buffer.specs.Segments.{segment, Apart, apart-within, coefficient-segment, segment-kept}
+use Rattle.single_product.specs.Operands.{Operands}
 
 abbrev pub addedRest : ℕ → ℕ → ℕ → ℕ → ℕ → ℕ → List ℕ → List ℕ
 addedRest p n a b t first w = drop first (addedProduct p n a b t w)

@@ -1,4 +1,4 @@
--- `product::add_product` meets its contract: each way of few places is the contract of its callee, and above 4096 places the front is written
+-- `single_product::add_product` meets its contract: each way of few places is the contract of its callee, and above 4096 places the front is written
 -- and then the rest. The measure is the number of places. Assumes nothing.
 use Prim.Native.Nat.{ℕ, _+_, _*_, _/_, _<_}
 use native.Mathlib.Omega.{arith}
@@ -7,18 +7,18 @@ use mathlib.Core.Path.{_∙_}
 use borrow.Author.Needs.{needs}
 use borrow.Fn.Kinds.{In}
 use borrow.Fn.PlainCycle.{Measures, is, falls, and}
-use Rattle.product.specs.Long.{added-parts, operands-fewer}
-use Rattle.product.specs.Single.{operands-length}
-use Rattle.product.proofs.add_product.Reads as add-product
-use Rattle.product.proofs.add_product.Kinds as add-product-kinds
-use Rattle.product.proofs.+add_product.Lts-add_product as lts
+use Rattle.single_product.specs.Long.{added-parts, operands-fewer}
+use Rattle.single_product.specs.Operands.{operands-length}
+use Rattle.single_product.proofs.add_product.Reads as add-product
+use Rattle.single_product.proofs.add_product.Kinds as add-product-kinds
+use Rattle.single_product.proofs.+add_product.Lts-add_product as lts
 use Rattle.added_product.proofs.add_by_rows.Reads as add-by-rows-reads
-use Rattle.added_product.proofs.add_up_to_1024.Reads as add-up-to-1024-reads
-use Rattle.added_product.proofs.add_up_to_256.Reads as add-up-to-256-reads
-use Rattle.added_product.proofs.add_up_to_4096.Reads as add-up-to-4096-reads
-use Rattle.product.proofs.add_coefficients.Reads as add-coefficients-reads
-use Rattle.product.proofs.+add_product.{statement}
-use Rattle.product.proofs.+add_product.Tie.{close}
+use Rattle.single_product.proofs.add_up_to_1024.Reads as add-up-to-1024-reads
+use Rattle.single_product.proofs.add_up_to_256.Reads as add-up-to-256-reads
+use Rattle.single_product.proofs.add_up_to_4096.Reads as add-up-to-4096-reads
+use Rattle.single_product.proofs.add_coefficients.Reads as add-coefficients-reads
+use Rattle.single_product.proofs.+add_product.{statement}
+use Rattle.single_product.proofs.+add_product.Tie.{close}
 
 abbrev μ-add-product : Measures 1 add-product-kinds.ps ℕ
 μ-add-product κs a = a .1 .0
