@@ -24,7 +24,7 @@ use Rattle.definition.specs.Ranged.{joined, joinedAt}
 use Rattle.definition.specs.Substitution.{cutProduct, cutProductAt, product}
 use Rattle.parity.specs.Halves.{Residues}
 use Rattle.karatsuba.specs.Rule.{cutProduct-taken}
-use Rattle.schoolbook.specs.Remainders.{length-residueList, product-residues, residue-below, residueList}
+use Rattle.schoolbook.specs.ByRows.{length-residueList, product-residues, residue-below, residueList}
 
 unfoldable pub addedAt : ℕ → ℕ → List ℕ → List ℕ → ℕ → ℕ
 addedAt p t w z k = (coefficient w (t + k) + coefficient z k) % p

@@ -8,7 +8,7 @@ ghost use lib.Seq.{sets};
 ghost use Rattle.definition.specs.Lists.{tabulate};
 ghost use Rattle.karatsuba.specs.Room.{Lists};
 ghost use Rattle.parity.specs.Halves.{Residues};
-ghost use Rattle.schoolbook.specs.Remainders.{residueList};
+ghost use Rattle.schoolbook.specs.ByRows.{residueList};
 ghost use Rattle.added_product.specs.Added.{Added, Parts, addedAt};
 
 // The first n places of z become those of x modulo p.

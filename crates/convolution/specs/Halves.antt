@@ -1,6 +1,5 @@
 -- An exact sum of 64-bit numbers whose low and high 32-bit halves are summed apart.
 --
---   product-below      the product of two numbers below m is at most (m - 1)^2
 --   carried            the remainder of 2^32 high + low, with what low has above its 32 bits carried to high
 --   Halves c f i low high   2^32 high + low is c + f(0) + .. + f(i - 1), and both halves are small
 --   halves-first       it holds before the first term
@@ -9,15 +8,12 @@
 --   halves-low halves-high   while there are at most 2^30 terms, both halves stay below 2^63
 -- Assumes nothing.
 use Prim.Native.Nat.{ℕ, _+_, _-_, _*_, _/_, _%_, _^_, _<_, _≤_}
-use native.Mathlib.Nat.{mod-add-mod, mul-le-mul}
+use native.Mathlib.Nat.{mod-add-mod}
 use native.Mathlib.Numerals.{add-one}
 use native.Mathlib.Omega.{arith}
 use mathlib.Core.Path.{_≡_}
 use Rattle.algebra.specs.Remainder.{mod-mul-mod}
 use Rattle.definition.specs.Lists.{sum}
-
-pub product-below : {m a b : ℕ} → a < m → b < m → a * b ≤ (m - 1) * (m - 1)
-product-below {m} h k = mul-le-mul {n₂ = m - 1} {m₂ = m - 1} (omega arith) (omega arith)
 
 pub carried : (p high low : ℕ)
     → ((high + low / 2 ^ 32) % p * 2 ^ 32 + low % 2 ^ 32) % p ≡ (2 ^ 32 * high + low) % p

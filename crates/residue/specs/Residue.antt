@@ -1,17 +1,21 @@
--- Differences and sums of residues modulo p without a division by p.
+-- Differences and sums of residues modulo p without a division by p, and products of numbers that are below a bound.
 --
+--   product-below        the product of two numbers below m is at most (m - 1)^2
 --   wrapped-difference   b taken off a, modulo 2^32, and p more where that is below 0: a - b modulo p
 --   sum-difference       p - b taken off a, modulo p: a + b
 -- Assumes nothing.
-use Prim.Native.Nat.{ℕ, _+_, _-_, _%_, _<_, _≤_, _^_}
+use Prim.Native.Nat.{ℕ, _+_, _-_, _*_, _%_, _<_, _≤_, _^_}
 use native.Mathlib.Decide.{decLt}
-use native.Mathlib.Nat.{add-mod-mod, add-mod-right, add-zero, mod-eq-of-lt, mod-self, sub-self, sub-zero}
+use native.Mathlib.Nat.{add-mod-mod, add-mod-right, add-zero, mod-eq-of-lt, mod-self, mul-le-mul, sub-self, sub-zero}
 use native.Mathlib.Omega.{arith}
 use mathlib.Core.Logic.{_⊎_, inl, inr}
 use mathlib.Core.Path.{_≡_}
 use Rattle.definition.specs.KinoshitaLi.{negative}
 
-module _ {p a b : ℕ} (left : a < p) (right : b ≤ p) where
+pub product-below : {m a b : ℕ} → a < m → b < m → a * b ≤ (m - 1) * (m - 1)
+product-below {m} h k = mul-le-mul {n₂ = m - 1} {m₂ = m - 1} (omega arith) (omega arith)
+
+module _ {p a b : ℕ} (left : a < p + b) (right : b ≤ p) where
   -- the remainder of p - b changes nothing
   negative-sum : (a + negative p b) % p ≡ (a + (p - b)) % p
   unfolding negative
@@ -34,4 +38,4 @@ module _ {p a b : ℕ} (left : a < p) (right : b ≤ p) where
 pub sum-difference : {p a b : ℕ} → a < p → b < p → (a + negative p (p - b)) % p ≡ (a + b) % p
 sum-difference {p} {a} {b} left right =
     let e : p - (p - b) ≡ b = omega arith in
-    rw (negative-sum {b = p - b} left (omega arith), e)
+    rw (negative-sum {p = p} {a = a} {b = p - b} (omega arith) (omega arith), e)

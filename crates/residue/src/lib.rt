@@ -1,6 +1,6 @@
 // Residues modulo p, without a division by p where the numbers are residues already.
 ghost use mathlib.Core.Path.{_≡_};
-ghost use Prim.Native.Nat.{_+_, _%_, _<_, _≤_};
+ghost use Prim.Native.Nat.{_+_, _*_, _%_, _<_, _≤_, _^_};
 ghost use Rattle.definition.specs.KinoshitaLi.{negative};
 
 // x modulo p.
@@ -18,9 +18,17 @@ pub fn wide(x: u32) -> u64
     x as u64
 }
 
-// a - b modulo p, where a is a residue and b one or p itself. Below 0 the difference wraps, and p is added.
+// The product of two numbers of 32 bits. The remainders change nothing; they tell the compiler that a vector instruction will do.
+pub fn times(a: u64, b: u64) -> u64
+    requires { ⌜ (a < 2 ^ 32) × (b < 2 ^ 32) ⌝ }
+    ensures { λ r. ⌜ r ≡ a * b ⌝ }
+{
+    (a % 4294967296) * (b % 4294967296)
+}
+
+// a - b modulo p, where b is at most p and the difference below p. Below 0 it wraps, and p is added.
 pub fn difference(p: u32, a: u32, b: u32) -> u32
-    requires { ⌜ (a < p) × (b ≤ p) ⌝ }
+    requires { ⌜ (a < p + b) × (b ≤ p) ⌝ }
     ensures { λ r. ⌜ r ≡ (a + negative p b) % p ⌝ }
 {
     let more = if a < b { p } else { 0 };

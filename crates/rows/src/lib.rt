@@ -5,14 +5,6 @@ ghost use Prim.Native.Nat.{_+_, _*_, _<_, _^_};
 ghost use lib.ListN.{length};
 ghost use Rattle.rows.specs.Rows.{Factors, FourBelow, IsFour, IsTotal, PlacesBelow, Summed, fourProducts};
 
-// The product of two 32-bit numbers. The remainders change nothing; they tell the compiler that a vector instruction will do.
-fn times(a: u64, b: u64) -> u64
-    requires { ⌜ (a < 2 ^ 32) × (b < 2 ^ 32) ⌝ }
-    ensures { λ r. ⌜ r ≡ a * b ⌝ }
-{
-    (a % 4294967296) * (b % 4294967296)
-}
-
 // Four neighbouring places of a list.
 struct Four {
     a: u64,
@@ -45,7 +37,10 @@ fn sum_of_four(f: Four, y: &[u64], e: usize) -> u64
     requires { ⌜ FourBelow (2 ^ 31) f × PlacesBelow (2 ^ 31) (now y) e ⌝ }
     ensures { λ r. ⌜ r ≡ fourProducts f (now (y .entry)) e ⌝ }
 {
-    times(f.a, y[e + 3]) + times(f.b, y[e + 2]) + times(f.c, y[e + 1]) + times(f.d, y[e])
+    residue::times(f.a, y[e + 3])
+        + residue::times(f.b, y[e + 2])
+        + residue::times(f.c, y[e + 1])
+        + residue::times(f.d, y[e])
 }
 
 // Eight products of numbers below 2^31, in two sums of four.
@@ -66,10 +61,10 @@ fn four_products(f: Four, y: &[u64], e: usize) -> Total
     requires { ⌜ FourBelow (2 ^ 32) f × PlacesBelow (2 ^ 32) (now y) e ⌝ }
     ensures { λ r. ⌜ IsTotal 4 (fourProducts f (now (y .entry)) e) r ⌝ }
 {
-    let a = times(f.a, y[e + 3]);
-    let b = times(f.b, y[e + 2]);
-    let c = times(f.c, y[e + 1]);
-    let d = times(f.d, y[e]);
+    let a = residue::times(f.a, y[e + 3]);
+    let b = residue::times(f.b, y[e + 2]);
+    let c = residue::times(f.c, y[e + 1]);
+    let d = residue::times(f.d, y[e]);
     Total {
         wrapped: std::num::wrapping_add_u64(
             std::num::wrapping_add_u64(a, b),

@@ -1,4 +1,4 @@
 -- The laws behind a product by rows.
 --
---   Remainders   the remainders of the sums by rows, and the product
-pub mod Remainders
+--   ByRows       the remainders of the sums by rows, and the product
+pub mod ByRows

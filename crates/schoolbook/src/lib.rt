@@ -6,7 +6,7 @@ ghost use lib.ListN.{length};
 ghost use lib.Seq.{sets};
 ghost use Rattle.definition.specs.Substitution.{cutProduct};
 ghost use Rattle.rows.specs.Rows.{Factors, Summed};
-ghost use Rattle.schoolbook.specs.Remainders.{lowPart, remainderList, residueList, Small};
+ghost use Rattle.schoolbook.specs.ByRows.{residueList};
 
 // The n places from `at` on become those of x modulo p.
 fn widen(p: u32, n: usize, x: &[u32], at: usize, into: &mut [u64])
@@ -45,37 +45,6 @@ fn add_rows(p: u32, n: usize, x: &[u64], y: &[u64], sums: &mut [u64], high: &mut
     }
 }
 
-// The remainder of 2^32 high + low modulo m by one division, where first is 2^32 and second is 2^64 modulo m.
-fn folded(m: u64, first: u64, second: u64, high: u64, low: u64) -> u32
-    requires { ⌜ (0 < m) × (m < 2 ^ 32) × (first ≡ 2 ^ 32 % m) × (second ≡ 2 ^ 64 % m) × (high < 2 ^ 40) × (low < 2 ^ 40) ⌝ }
-    ensures { λ r. ⌜ r ≡ (2 ^ 32 * high + low) % m ⌝ }
-{
-    ((high / 4294967296 * second + high % 4294967296 * first + low) % m) as u32
-}
-
-// What 2^32 h leaves of a number that is s modulo 2^64.
-fn low_part(s: u64, h: u64) -> u64
-    ensures { λ r. ⌜ r ≡ lowPart s h ⌝ }
-{
-    std::num::wrapping_sub_u64(s, h % 4294967296 * 4294967296)
-}
-
-// The first n places of z become the remainders of the sums.
-fn remainders(p: u32, n: usize, sums: &[u64], high: &[u64], z: &mut [u32])
-    requires { ⌜ (0 < p) × Small n (now sums) (now high) × (n ≤ length (now z)) ⌝ }
-    ensures { λ r. ⌜ now (z .exit) ≡ sets (now (z .entry)) 0 (remainderList p n (now (sums .entry)) (now (high .entry))) ⌝ }
-{
-    let m = residue::wide(p);
-    let first = 4294967296 % m;
-    let second = first * first % m;
-    let mut k = 0;
-    while k < n {
-        let h = high[k];
-        z[k] = folded(m, first, second, h, low_part(sums[k], h));
-        k += 1;
-    }
-}
-
 // The first n places of z become the product of x and y modulo p, cut to n places.
 pub fn cut_product(p: u32, n: usize, x: &[u32], y: &[u32], z: &mut [u32])
     requires { ⌜ (0 < p) × (n ≤ 128) × (n ≤ length (now x)) × (n ≤ length (now y)) × (n ≤ length (now z)) ⌝ }
@@ -88,5 +57,5 @@ pub fn cut_product(p: u32, n: usize, x: &[u32], y: &[u32], z: &mut [u32])
     widen(p, n, x, 0, &mut left);
     widen(p, n, y, 7, &mut right);
     add_rows(p, n, &left, &right, &mut sums, &mut high);
-    remainders(p, n, &sums, &high, z);
+    remainder::remainders(p, n, &sums, &high, z);
 }

@@ -5,7 +5,7 @@ use native.Mathlib.Omega.{arith}
 use Prim.Native.Nat.{_-_}
 use Rattle.buffer.specs.Filling.{Filling, filling-first, filling-last, filling-next}
 use Rattle.definition.specs.Lists.{coefficient}
-use Rattle.schoolbook.specs.Remainders.{residueAt, residueList}
+use Rattle.schoolbook.specs.ByRows.{residueAt, residueList}
 use Rattle.added_product.proofs.load.Statement.{statement}
 use Rattle.added_product.proofs.load.Tie as tie
 

@@ -5,7 +5,8 @@ use Prim.Native.Nat.{ℕ, suc, _+_, _*_, _-_, _≤_, _^_}
 use mathlib.Core.Path.{_≡_, _∙_}
 use Rattle.definition.specs.Lists.{coefficient}
 use Rattle.definition.specs.Substitution.{product, productTerm}
-use Rattle.convolution.specs.Halves.{Halves, product-below, halves-first, halves-next, halves-total, halves-low, halves-high}
+use Rattle.convolution.specs.Halves.{Halves, halves-first, halves-next, halves-total, halves-low, halves-high}
+use Rattle.residue.specs.Residue.{product-below}
 use Rattle.convolution.proofs.product_coefficient.Statement.{statement}
 use Rattle.convolution.proofs.product_coefficient.Tie as tie
 

@@ -1,7 +1,7 @@
 -- `rows::sum_of_four` meets its contract. Assumes nothing.
 use borrow.Author.Needs.{needs}
 use native.Mathlib.Omega.{arith}
-use Rattle.convolution.specs.Halves.{product-below}
+use Rattle.residue.specs.Residue.{product-below}
 use Rattle.rows.proofs.sum_of_four.Statement.{statement}
 use Rattle.rows.proofs.sum_of_four.Tie as tie
 

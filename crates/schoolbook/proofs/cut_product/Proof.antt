@@ -2,7 +2,7 @@
 use borrow.Author.Needs.{needs}
 use lib.Seq.{sets}
 use mathlib.Core.Path.{ap, _∙_}
-use Rattle.schoolbook.specs.Remainders.{factors, product-by-rows, summed-none, summed-small, zeros-replicate}
+use Rattle.schoolbook.specs.ByRows.{factors, product-by-rows, summed-none, summed-small, zeros-replicate}
 use Rattle.schoolbook.proofs.cut_product.Statement.{statement}
 use Rattle.schoolbook.proofs.cut_product.Tie as tie
 

@@ -5,7 +5,7 @@ use Prim.Native.Nat.{_-_}
 use mathlib.Core.Path.{_∙_}
 use Rattle.buffer.specs.Filling.{Filling, filling-first, filling-last, filling-next}
 use Rattle.definition.specs.Lists.{coefficient}
-use Rattle.schoolbook.specs.Remainders.{residueAt, residueList}
+use Rattle.schoolbook.specs.ByRows.{residueAt, residueList}
 use Rattle.schoolbook.proofs.widen.Statement.{statement}
 use Rattle.schoolbook.proofs.widen.Tie as tie
 

@@ -1,11 +1,11 @@
--- `schoolbook::folded` meets its contract: every step fits 64 bits. Assumes nothing.
+-- `remainder::folded` meets its contract: every step fits 64 bits. Assumes nothing.
 use borrow.Author.Needs.{needs}
 use native.Mathlib.Nat.{mod-lt}
 use native.Mathlib.Omega.{arith}
 use Prim.Native.Nat.{ℕ, _-_, _*_, _/_, _%_, _<_, _≤_, _^_}
-use Rattle.schoolbook.specs.Remainders.{first-term, second-term, folded-remainder}
-use Rattle.schoolbook.proofs.folded.Statement.{statement}
-use Rattle.schoolbook.proofs.folded.Tie as tie
+use Rattle.remainder.specs.Division.{first-term, second-term, folded-remainder}
+use Rattle.remainder.proofs.folded.Statement.{statement}
+use Rattle.remainder.proofs.folded.Tie as tie
 
 second : (c : tie.Start) → c .args .high / 2 ^ 32 * c .args .second ≤ (2 ^ 8 - 1) * (2 ^ 32 - 1)
 second c = rw (c .pre .3) (second-term (c .args .m) (c .args .high) (c .pre .0) (c .pre .1) (c .pre .4))

@@ -1,9 +1,9 @@
--- `schoolbook::low_part` meets its contract. Assumes nothing.
+-- `remainder::low_part` meets its contract. Assumes nothing.
 use borrow.Author.Needs.{needs}
 use Prim.Native.Nat.{_<_, _^_}
-use Rattle.schoolbook.specs.Remainders.{low-part}
-use Rattle.schoolbook.proofs.low_part.Statement.{statement}
-use Rattle.schoolbook.proofs.low_part.Tie as tie
+use Rattle.remainder.specs.Sums.{low-part}
+use Rattle.remainder.proofs.low_part.Statement.{statement}
+use Rattle.remainder.proofs.low_part.Tie as tie
 
 mul-wrapping-sub-u64 : tie.Need-mul-wrapping-sub-u64
 mul-wrapping-sub-u64 c = search needs

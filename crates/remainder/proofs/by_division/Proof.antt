@@ -1,15 +1,16 @@
--- `schoolbook::remainders` meets its contract: after k turns the first k places are written. Assumes nothing.
+-- `remainder::by_division` meets its contract: after k turns the first k places are written. Assumes nothing.
 use borrow.Author.Needs.{needs}
 use native.Mathlib.Nat.{mod-lt, zero-add}
 use native.Mathlib.Omega.{arith}
 use Prim.Native.Nat.{_-_, _%_, _<_, _^_}
 use mathlib.Core.Path.{refl, _∙_}
 use Rattle.buffer.specs.Filling.{Filling, filling-first, filling-last, filling-next}
-use Rattle.convolution.specs.Halves.{product-below}
+use Rattle.residue.specs.Residue.{product-below}
 use Rattle.definition.specs.Lists.{coefficient}
-use Rattle.schoolbook.specs.Remainders.{remainderAt, remainderList, second-power}
-use Rattle.schoolbook.proofs.remainders.Statement.{statement}
-use Rattle.schoolbook.proofs.remainders.Tie as tie
+use Rattle.remainder.specs.Division.{second-power}
+use Rattle.remainder.specs.Sums.{remainderAt, remainderList}
+use Rattle.remainder.proofs.by_division.Statement.{statement}
+use Rattle.remainder.proofs.by_division.Tie as tie
 
 abbrev Inv-loop : tie.InvT-loop
 Inv-loop p n sums high z₀ m first second k₀ z k = Filling (remainderAt p sums high) 0 n z₀ z k
@@ -89,8 +90,8 @@ returns : tie.Need-returns Inv-loop μ-loop
 unfolding remainderList
 returns c = filling-last (c .before .loop .inv) (omega arith)
 
-pub remainders-spec : {M : Type 1} → statement M
-remainders-spec =
+pub by-division-spec : {M : Type 1} → statement M
+by-division-spec =
     tie.close
     (tie.spec
     Inv-loop

@@ -1,23 +1,16 @@
--- The remainders of the sums by rows, and the product.
+-- The product by rows: what the rows add up to, and its remainders.
 --
 --   residueList p n x     the first n places of x modulo p
 --   product-residues      a product of two lists modulo p is that of their residues
---   lowPart s h           what 2^32 h leaves of a number that is s modulo 2^64
---   low-part              it is the difference that wraps
---   Small n sums high     n places whose parts are below 2^40
---   first-small           2^32 modulo m is at most 2^31
---   first-term second-term   the parts of the sum with 2^32 and 2^64 replaced by their remainders modulo m: it fits 64 bits
---   folded-remainder      and has the remainder of 2^32 high + low
---   second-power          2^64 modulo m from 2^32 modulo m
---   remainderList p n sums high   the remainders of the sums that are kept in such parts
+--   kept-sum kept-small kept-few   what is kept of a sum of few terms determines it, and its parts are small
 --   Zeros c zs            zeros, as a local list is made
 --   factors               lists read into zeros are factors of a product by rows
 --   product-by-rows       the remainders of the sums of all rows are the product
 --   summed-none summed-small   no row is added yet; all are
 -- Assumes nothing.
-use Prim.Native.Nat.{ℕ, suc, _+_, _-_, _*_, _/_, _%_, _<_, _≤_, _^_}
-use native.Mathlib.Decide.{decLe, decLt}
-use native.Mathlib.Nat.{add-mod, le-refl, mod-add-mod, mod-eq-sub-mod, mod-le, mod-lt, mul-le-mul, zero-add}
+use Prim.Native.Nat.{ℕ, suc, _+_, _-_, _*_, _%_, _<_, _≤_, _^_}
+use native.Mathlib.Decide.{decLt}
+use native.Mathlib.Nat.{le-refl, mod-lt, mul-le-mul, zero-add}
 use native.Mathlib.Omega.{arith}
 use mathlib.Core.Path.{_≡_, sym, ap, _∙_}
 use mathlib.Core.List.{List}
@@ -26,11 +19,11 @@ use lib.Seq.{sets, length-sets}
 use Rattle.algebra.specs.Agree.{agree-⊠}
 use Rattle.algebra.specs.Bridge.{listed-agree, reduced-listed, series-listed, series-of, cutProduct-listed}
 use Rattle.algebra.specs.Lists.{coefficient-tabulate, length-tabulate, sum-cong, tabulate-cong}
-use Rattle.algebra.specs.Remainder.{mod-mul-mod, mul-mod-mod}
 use Rattle.algebra.specs.Residue.{residues}
 use Rattle.buffer.specs.Written.{getD-sets-inside, getD-sets-other}
 use Rattle.definition.specs.Lists.{sum, tabulate, coefficient}
 use Rattle.definition.specs.Substitution.{product, productTerm, cutProduct, cutProductAt}
+use Rattle.remainder.specs.Sums.{Small, lowPart, remainderAt, remainderList}
 use Rattle.rows.specs.Rows.{Factors, Kept, Summed, kept-none, rows-above, term}
 
 unfoldable pub residueAt : ℕ → List ℕ → ℕ → ℕ
@@ -46,16 +39,6 @@ product-residues {p} l n x y =
     (cutProduct-listed l n _ _
     ∙ listed-agree (agree-⊠ (residues l) (series-listed l n (series-of l x)) (series-listed l n (series-of l y)))
     ∙ sym (cutProduct-listed l n x y))
-
--- what 2^32 h leaves of a number that is s modulo 2^64
-unfoldable pub lowPart : ℕ → ℕ → ℕ
-lowPart s h = (s + (2 ^ 64 - 2 ^ 32 * h % 2 ^ 64)) % 2 ^ 64
-
-pub low-part : {r s : ℕ} (h : ℕ) → r < 2 ^ 64 → (r + h % 2 ^ 32 * 2 ^ 32) % 2 ^ 64 ≡ s → r ≡ lowPart s h
-unfolding lowPart
-low-part {r} {s} h b e =
-    let m : 2 ^ 32 * h % 2 ^ 64 ≡ h % 2 ^ 32 * 2 ^ 32 = omega arith in
-    rw m (omega arith)
 
 module _ {f : ℕ → ℕ} {i s h : ℕ} (k : Kept f i s h) (b : i ≤ 136) where
   few-terms : i * (2 ^ 32 - 1) ≤ 136 * (2 ^ 32 - 1)
@@ -76,49 +59,6 @@ module _ {f : ℕ → ℕ} {i s h : ℕ} (k : Kept f i s h) (b : i ≤ 136) wher
 
   kept-few : h < 2 ^ 40
   kept-few = omega (arith, few-terms, k .few)
-
-pub record Small (n : ℕ) (sums high : List ℕ) : Type 0 where
-  pub sums-room : n ≤ length sums
-  pub high-room : n ≤ length high
-  pub low-below : (k : ℕ) → k < n → lowPart (getD sums k 0) (getD high k 0) < 2 ^ 40
-  pub high-below : (k : ℕ) → k < n → getD high k 0 < 2 ^ 40
-
-pub first-small : (m : ℕ) → 0 < m → m < 2 ^ 32 → 2 ^ 32 % m ≤ 2 ^ 31
-first-small m l h = at (decLe m (2 ^ 31))
-  where
-    at : Dec (m ≤ 2 ^ 31) → 2 ^ 32 % m ≤ 2 ^ 31
-    at (yes b) = omega (arith, mod-lt (2 ^ 32) l)
-    at (no b) = rw (mod-eq-sub-mod {n = 2 ^ 32} {m = m} (omega arith)) (omega (arith, mod-le (2 ^ 32 - m) m))
-
-pub second-power : (m : ℕ) → (2 ^ 32 % m) * (2 ^ 32 % m) % m ≡ 2 ^ 64 % m
-second-power m = rw (mod-mul-mod, mul-mod-mod)
-
-module _ (m high : ℕ) (l : 0 < m) (h : m < 2 ^ 32) where
-  pub second-term : high < 2 ^ 40 → high / 2 ^ 32 * (2 ^ 64 % m) ≤ (2 ^ 8 - 1) * (2 ^ 32 - 1)
-  second-term b = mul-le-mul {n₂ = 2 ^ 8 - 1} {m₂ = 2 ^ 32 - 1} (omega arith) (omega (arith, mod-lt (2 ^ 64) l))
-
-  pub first-term : high % 2 ^ 32 * (2 ^ 32 % m) ≤ (2 ^ 32 - 1) * 2 ^ 31
-  first-term = mul-le-mul {n₂ = 2 ^ 32 - 1} {m₂ = 2 ^ 31} (omega arith) (first-small m l h)
-
-pub folded-remainder : (m high low : ℕ)
-    → (high / 2 ^ 32 * (2 ^ 64 % m) + high % 2 ^ 32 * (2 ^ 32 % m) + low) % m ≡ (2 ^ 32 * high + low) % m
-folded-remainder m high low =
-    let whole : high / 2 ^ 32 * 2 ^ 64 + high % 2 ^ 32 * 2 ^ 32 ≡ 2 ^ 32 * high = omega arith in
-    rw (
-      ← mod-add-mod (high / 2 ^ 32 * (2 ^ 64 % m) + high % 2 ^ 32 * (2 ^ 32 % m)) m,
-      add-mod (high / 2 ^ 32 * (2 ^ 64 % m)) (high % 2 ^ 32 * (2 ^ 32 % m)),
-      mul-mod-mod (high / 2 ^ 32),
-      mul-mod-mod (high % 2 ^ 32),
-      ← add-mod,
-      mod-add-mod,
-      whole,
-    )
-
-unfoldable pub remainderAt : ℕ → List ℕ → List ℕ → ℕ → ℕ
-remainderAt p sums high k = (2 ^ 32 * coefficient high k + lowPart (coefficient sums k) (coefficient high k)) % p
-
-unfoldable pub remainderList : ℕ → ℕ → List ℕ → List ℕ → List ℕ
-remainderList p n sums high = tabulate n (remainderAt p sums high)
 
 pub record Zeros (c : ℕ) (zs : List ℕ) : Type 0 where
   pub size : length zs ≡ c

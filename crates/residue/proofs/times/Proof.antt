@@ -1,9 +1,9 @@
--- `rows::times` meets its contract: a number of 32 bits is its own remainder. Assumes nothing.
+-- `residue::times` meets its contract: a number of 32 bits is its own remainder. Assumes nothing.
 use native.Mathlib.Nat.{mod-eq-of-lt}
 use native.Mathlib.Omega.{arith}
-use Rattle.convolution.specs.Halves.{product-below}
-use Rattle.rows.proofs.times.Statement.{statement}
-use Rattle.rows.proofs.times.Tie as tie
+use Rattle.residue.specs.Residue.{product-below}
+use Rattle.residue.proofs.times.Statement.{statement}
+use Rattle.residue.proofs.times.Tie as tie
 
 mul-result : tie.Need-mul-result
 mul-result c = record { fits = rw (mod-eq-of-lt (c .pre .0), mod-eq-of-lt (c .pre .1)) (omega (arith, product-below (c .pre .0) (c .pre .1))) }
