@@ -1,5 +1,6 @@
 //! Products of series, by routes 1 and 2 with few outer coefficients: at every order up to 300 and
-//! around each larger size where a product may change its method, for primes on both sides of 2^31.
+//! around each larger size where a product may change its method, for primes on both sides of 2^30
+//! and of 2^31.
 //! The second implementation makes the powers of g that say the value, and every place of the
 //! buffers is 2^32 - 1 before the call.
 
@@ -10,7 +11,8 @@ use crate::plain::primes::LARGEST_PRIME;
 use crate::plain::products::{places, product};
 use crate::plain::random::Random;
 
-const MODULI: [u64; 7] = [2, 3, 7, 65_537, 2_147_483_647, 2_147_483_659, LARGEST_PRIME];
+const MODULI: [u64; 8] =
+    [2, 3, 65_537, 1_073_741_789, 1_073_741_827, 2_147_483_647, 2_147_483_659, LARGEST_PRIME];
 const EVERY_ORDER: usize = 300;
 
 /// The place that the buffers hold before a call.

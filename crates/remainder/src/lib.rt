@@ -39,7 +39,7 @@ fn by_division(p: u32, n: usize, sums: &[u64], high: &[u64], z: &mut [u32])
 }
 
 // A number below 2^44 with the remainder of the sum modulo m, where `inverse` is the quotient of 2^62 - 1 by m: a multiple of m is taken off that the
-// upper bits tell.
+// upper bits tell. The divisors are 2^8, 2^34 and 2^52.
 fn to_44_bits(m: u64, inverse: u64, sum: u64, high: u64) -> u64
     requires { ⌜ Between m × (inverse ≡ (2 ^ 62 - 1) / m) × (high < 2 ^ 40) × (lowPart sum high < 2 ^ 40) ⌝ }
     ensures { λ r. ⌜ (r < 2 ^ 44) × (r % m ≡ (2 ^ 32 * high + lowPart sum high) % m) ⌝ }
@@ -48,7 +48,7 @@ fn to_44_bits(m: u64, inverse: u64, sum: u64, high: u64) -> u64
     std::num::wrapping_sub_u64(sum, residue::times(q, m) % 4503599627370496 * 4096)
 }
 
-// The same of a number of 44 bits: what is left is below 2 m.
+// The same of a number of 44 bits: what is left is below 2 m. The divisors are 2^12 and 2^50.
 fn to_twice(m: u64, inverse: u64, r: u64) -> u64
     requires { ⌜ Between m × (inverse ≡ (2 ^ 62 - 1) / m) × (r < 2 ^ 44) ⌝ }
     ensures { λ s. ⌜ (s < m + m) × (s % m ≡ r % m) ⌝ }
