@@ -1,8 +1,6 @@
 -- A product of two parts of a list, added to a third part.
 --
 --   addedAt p t w z k      place t + k of w plus place k of z, modulo p
---   addedProduct p n a b t w   the n places from t on, plus the product of those from a and from b on
---   length-joined          a sum with a product has n places
 --   Parts p n a b t w      what each function requires: three parts of n places inside w
 --   Added                  what each ensures
 --   residues-product       the first n places are residues where they are a product
@@ -16,9 +14,9 @@ use mathlib.Core.List.{List}
 use mathlib.Core.Path.{_≡_, sym, ap, _∙_}
 use lib.ListN.{length, getD, take, drop}
 use lib.Seq.{sets, getD-drop, getD-take}
-use Rattle.algebra.specs.Lists.{coefficient-tabulate, length-tabulate, tabulate-cong}
-use Rattle.buffer.specs.Segments.{segment}
+use Rattle.algebra.specs.Lists.{coefficient-tabulate, tabulate-cong}
 use Rattle.buffer.specs.Written.{front-sets}
+use Rattle.coefficients.specs.Operands.{addedProduct}
 use Rattle.definition.specs.Lists.{coefficient, tabulate}
 use Rattle.definition.specs.Ranged.{joined, joinedAt}
 use Rattle.definition.specs.Substitution.{cutProduct, cutProductAt, product}
@@ -36,15 +34,8 @@ pub record Parts (p n a b t : ℕ) (w : List ℕ) : Type 0 where
   pub right : b + n ≤ length w
   pub target : t + n ≤ length w
 
-abbrev pub addedProduct : ℕ → ℕ → ℕ → ℕ → ℕ → List ℕ → List ℕ
-addedProduct p n a b t w = joined p n (segment w t n) (segment w a n) (segment w b n)
-
 pub record Added (p n a b t : ℕ) (before after : List ℕ) : Type 0 where
   pub written : after ≡ sets before t (addedProduct p n a b t before)
-
-pub length-joined : (p n : ℕ) (s u v : List ℕ) → length (joined p n s u v) ≡ n
-unfolding joined
-length-joined p n s u v = length-tabulate n (joinedAt p s u v)
 
 module _ {p : ℕ} (l : 0 < p) (n : ℕ) (z u v : List ℕ) (e : take n z ≡ cutProduct p n u v) where
   place-product : (k : ℕ) → k < n → getD z k 0 ≡ product (coefficient u) (coefficient v) k % p

@@ -1,9 +1,9 @@
 -- Cut products in one variable, on parts of one list.
 --
---   Operands p n a b t w      what `multiply` and `multiply_add` require (`single_product/Operands`)
+--   Operands p n a b t w      what `multiply` and `multiply_add` require (`coefficients/Operands`)
 --   Multiplied                the contract of `multiply`
 --   MultipliedAdd             the contract of `multiply_add`
---   addedProduct p n a b t w  its target after the call (`added_product/Added`)
+--   addedProduct p n a b t w  its target after the call (`coefficients/Operands`)
 --   added-over                it over a target that was written before
 --   added-zeros               it over zeros is the product
 -- Assumes nothing.
@@ -20,8 +20,7 @@ use Rattle.buffer.specs.Written.{part-sets, sets-cover}
 use Rattle.definition.specs.Lists.{coefficient}
 use Rattle.definition.specs.Ranged.{joined, joinedAt}
 use Rattle.definition.specs.Substitution.{cutProduct, cutProductAt}
-pub use Rattle.added_product.specs.Added.{addedProduct, length-joined}
-pub use Rattle.single_product.specs.Operands.{Operands, operands-length}
+pub use Rattle.coefficients.specs.Operands.{Operands, addedProduct, length-joined, operands-length}
 
 pub record Multiplied (p n a b t : ℕ) (before after : List ℕ) (result : ℕ) : Type 0 where
   pub written : after ≡ sets before t (cutProduct p n (segment before a n) (segment before b n))

@@ -1,7 +1,7 @@
 // Rows of the multiplication by hand: row j is place j of one factor times the other factor. Some rows are added in one pass over the places.
 // The sum of a place is exact: it is kept modulo 2^64, and beside it the sum of the high halves of what was added.
 ghost use mathlib.Core.Path.{_≡_};
-ghost use Prim.Native.Nat.{_+_, _*_, _<_, _^_};
+ghost use Prim.Native.Nat.{_+_, _<_, _^_};
 ghost use lib.ListN.{length};
 ghost use Rattle.rows.specs.Rows.{Factors, FourBelow, IsFour, IsTotal, PlacesBelow, Summed, fourProducts};
 

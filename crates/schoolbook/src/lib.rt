@@ -1,7 +1,7 @@
 // The product of two lists modulo p, cut to at most 128 places, as by hand: the rows are added to exact sums (`rows`), and the remainder of a
 // place is taken once.
 ghost use mathlib.Core.Path.{_≡_};
-ghost use Prim.Native.Nat.{_+_, _*_, _%_, _<_, _≤_, _^_};
+ghost use Prim.Native.Nat.{_+_, _<_, _≤_};
 ghost use lib.ListN.{length};
 ghost use lib.Seq.{sets};
 ghost use Rattle.definition.specs.Substitution.{cutProduct};

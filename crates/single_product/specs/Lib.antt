@@ -1,6 +1,4 @@
--- What a cut product of any number of places requires, and the laws behind it.
+-- The laws behind a cut product of any number of places.
 --
---   Operands  what it requires
---   Long      products that are written from one place on, or in two parts
-pub mod Operands
+--   Long   products that are written in two parts
 pub mod Long

@@ -1,11 +1,10 @@
 // Cut products of any number of places modulo p, on parts of one lent buffer: the product of two parts is added to a third, in the way that is
 // quickest for so many places.
 ghost use mathlib.Core.Path.{_≡_};
-ghost use Prim.Native.Nat.{_+_, _≤_};
-ghost use lib.ListN.{drop};
+ghost use Prim.Native.Nat.{_≤_};
 ghost use lib.Seq.{sets};
-ghost use Rattle.added_product.specs.Added.{Added, Parts, addedProduct};
-ghost use Rattle.single_product.specs.Operands.{Operands};
+ghost use Rattle.added_product.specs.Added.{Added, Parts};
+ghost use Rattle.coefficients.specs.Operands.{Operands, addedProduct};
 
 // By halves for at most 256 places. Lists are cleared when they are made, so that few places take short lists.
 fn add_up_to_256(p: u32, n: usize, w: &mut [u32], a: usize, b: usize, t: usize)
@@ -88,23 +87,8 @@ fn add_up_to_4096(p: u32, n: usize, w: &mut [u32], a: usize, b: usize, t: usize)
     );
 }
 
-// The n places from t on become they + A B modulo p, cut to n places, where A and B are the n places from a and from b on; but only those from
-// place `first` on are written. Coefficient by coefficient: the quickest way for few places, and for any number of them.
-fn add_coefficients(p: u32, n: usize, w: &mut [u32], a: usize, b: usize, t: usize, first: usize)
-    requires { ⌜ Operands p n a b t (now w) × (first ≤ n) ⌝ }
-    ensures { λ r. ⌜ now (w .exit) ≡ sets (now (w .entry)) (t + first) (drop first (addedProduct p n a b t (now (w .entry)))) ⌝ }
-{
-    let end_a = a + n;
-    let end_b = b + n;
-    let mut k = first;
-    while k < n {
-        let c = w[t + k];
-        w[t + k] = convolution::product_coefficient(p, c, &w[a..end_a], &w[b..end_b], k);
-        k += 1;
-    }
-}
-
-// The same for all n places, in the way that is quickest for so many. Above 4096 places the first half of them, rounded to a multiple of 4096,
+// The n places from t on become they + A B modulo p, cut to n places, where A and B are the n places from a and from b on, in the way that is
+// quickest for so many. Above 4096 places the first half of them, rounded to a multiple of 4096,
 // is taken this way, so that in the end the first 4096 are, and the rest coefficient by coefficient. The lists of the callees are not part of
 // this function's own frame: the compiler does not inline functions with large lists into one that calls itself. It must call itself with a
 // number that is not known beforehand: with 4096 the compiler makes a copy for that number, and the call of itself is gone.
@@ -113,7 +97,7 @@ pub fn add_product(p: u32, n: usize, w: &mut [u32], a: usize, b: usize, t: usize
     ensures { λ r. ⌜ now (w .exit) ≡ sets (now (w .entry)) t (addedProduct p n a b t (now (w .entry))) ⌝ }
 {
     if n <= 20 {
-        add_coefficients(p, n, w, a, b, t, 0);
+        coefficients::add_from(p, n, w, a, b, t, 0);
     } else if n <= 128 {
         added_product::add_by_rows(p, n, w, a, b, t);
     } else if n <= 256 {
@@ -125,6 +109,6 @@ pub fn add_product(p: u32, n: usize, w: &mut [u32], a: usize, b: usize, t: usize
     } else {
         let front = (n + 4095) / 8192 * 4096;
         add_product(p, front, w, a, b, t);
-        add_coefficients(p, n, w, a, b, t, front);
+        coefficients::add_from(p, n, w, a, b, t, front);
     }
 }

@@ -6,7 +6,6 @@ use mathlib.Core.Path.{_≡_, ap, _∙_}
 use lib.ListN.{take, drop}
 use lib.Seq.{sets}
 use Rattle.definition.specs.Substitution.{cutProduct}
-use Rattle.karatsuba.specs.Room.{Room}
 use Rattle.added_product.specs.Added.{added-joined, loaded-product, loaded-residues, residues-product}
 use Rattle.added_product.proofs.add_by_halves.Statement.{statement}
 use Rattle.added_product.proofs.add_by_halves.Tie as tie

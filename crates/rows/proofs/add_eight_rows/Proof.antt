@@ -2,13 +2,12 @@
 use borrow.Author.Needs.{needs}
 use native.Mathlib.Nat.{add-sub-of-le}
 use native.Mathlib.Omega.{arith}
-use Prim.Native.Nat.{ℕ, _+_, _-_, _<_, _≤_, _^_}
+use Prim.Native.Nat.{_-_, _≤_, _^_}
 use lib.ListN.{length}
 use mathlib.Core.Path.{_≡_, refl}
 use Rattle.rows.specs.Rows.{Pass, eight-rows, four-below, nearer, pass-first, pass-fits, pass-last, pass-next, places-below}
 use Rattle.rows.proofs.add_eight_rows.Statement.{statement}
 use Rattle.rows.proofs.add_eight_rows.Tie as tie
-use Rattle.std.proofs.num.wrapping_add_u64.Reads as wrapping-add-u64-reads
 
 abbrev Inv-loop : tie.InvT-loop
 Inv-loop i n x y sums₀ high₀ f g t₀ sums high t =

@@ -8,7 +8,7 @@ use borrow.Author.Needs.{needs}
 use borrow.Fn.Kinds.{In}
 use borrow.Fn.PlainCycle.{Measures, is, falls, and}
 use Rattle.single_product.specs.Long.{added-parts, operands-fewer}
-use Rattle.single_product.specs.Operands.{operands-length}
+use Rattle.coefficients.specs.Operands.{operands-length}
 use Rattle.single_product.proofs.add_product.Reads as add-product
 use Rattle.single_product.proofs.add_product.Kinds as add-product-kinds
 use Rattle.single_product.proofs.+add_product.Lts-add_product as lts
@@ -16,7 +16,7 @@ use Rattle.added_product.proofs.add_by_rows.Reads as add-by-rows-reads
 use Rattle.single_product.proofs.add_up_to_1024.Reads as add-up-to-1024-reads
 use Rattle.single_product.proofs.add_up_to_256.Reads as add-up-to-256-reads
 use Rattle.single_product.proofs.add_up_to_4096.Reads as add-up-to-4096-reads
-use Rattle.single_product.proofs.add_coefficients.Reads as add-coefficients-reads
+use Rattle.coefficients.proofs.add_from.Reads as add-from-reads
 use Rattle.single_product.proofs.+add_product.{statement}
 use Rattle.single_product.proofs.+add_product.Tie.{close}
 
@@ -31,8 +31,8 @@ add-product-below t = and 1 add-product-kinds.ps (falls 1 add-product-kinds.ps _
 
 abbrev claims : ℕ → lts.Claims
 claims t = (
-  add-coefficients-reads.Asked,
-  add-coefficients-reads.Learnt,
+  add-from-reads.Asked,
+  add-from-reads.Learnt,
   add-by-rows-reads.Asked,
   add-by-rows-reads.Learnt,
   add-up-to-256-reads.Asked,
@@ -46,8 +46,8 @@ claims t = (
 )
 
 module _ (t : ℕ) where
-  add-coefficients-requires : lts.Need-add-coefficients-requires (claims t) (add-product-at t) add-product.Post
-  add-coefficients-requires c κs = search needs
+  add-from-requires : lts.Need-add-from-requires (claims t) (add-product-at t) add-product.Post
+  add-from-requires c κs = search needs
 
   add-by-rows-requires : lts.Need-add-by-rows-requires (claims t) (add-product-at t) add-product.Post
   add-by-rows-requires c κs = search needs
@@ -70,8 +70,8 @@ module _ (t : ℕ) where
   add-product-requires : lts.Need-add-product-requires (claims t) (add-product-at t) add-product.Post
   add-product-requires c κs = (omega arith, operands-fewer (c .before .before .before .before .before .before .before .pre .1) _ (omega arith))
 
-  add-coefficients-requires-2 : lts.Need-add-coefficients-requires-2 (claims t) (add-product-at t) add-product.Post
-  add-coefficients-requires-2 c κs =
+  add-from-requires-2 : lts.Need-add-from-requires-2 (claims t) (add-product-at t) add-product.Post
+  add-from-requires-2 c κs =
       let front = c .before .before .before in
       (operands-length (front .add-product .kept .1 .1 .0) (front .before .before .before .before .before .before .before .before .pre .1), omega arith)
 
@@ -79,7 +79,7 @@ module _ (t : ℕ) where
   same-length c = search needs
 
   returns : lts.Need-returns (claims t) (add-product-at t) add-product.Post
-  returns c = rw add-zero at (c .before .before .add-coefficients .ensures)
+  returns c = rw add-zero at (c .before .before .add-from .ensures)
 
   same-length-2 : lts.Need-same-length-2 (claims t) (add-product-at t) add-product.Post
   same-length-2 c = search needs
@@ -113,7 +113,7 @@ module _ (t : ℕ) where
       let rest = c .before .before in
       let front = rest .before .before .before .before in
       let start = front .before .before .before .before .before .before .before .before in
-      rest .add-coefficients2 .ensures
+      rest .add-from2 .ensures
       ∙ rw (front .add-product .ensures) (added-parts (start .pre .1) ((start .args .n + 4095) / 8192 * 4096) (omega arith))
 
 pub +add-product-spec : {M : Type 1} → statement M
@@ -124,7 +124,7 @@ pub +add-product-spec : {M : Type 1} → statement M
     (claims t)
     (add-product-at t)
     add-product.Post
-    (add-coefficients-requires t)
+    (add-from-requires t)
     (add-by-rows-requires t)
     (add-up-to-256-requires t)
     (add-up-to-1024-requires t)
@@ -132,7 +132,7 @@ pub +add-product-spec : {M : Type 1} → statement M
     (add-front t)
     (mul-front t)
     (add-product-requires t)
-    (add-coefficients-requires-2 t)
+    (add-from-requires-2 t)
     (same-length t)
     (returns t)
     (same-length-2 t)

@@ -1,4 +1,4 @@
--- `single_product::add_coefficients` meets its contract: before each turn the places from `first` up to k are written, and none that is still to be
+-- `coefficients::add_from` meets its contract: before each turn the places from `first` up to k are written, and none that is still to be
 -- read. Assumes nothing.
 use borrow.Author.Needs.{needs}
 use native.Mathlib.Nat.{add-sub-cancel-left}
@@ -6,9 +6,9 @@ use native.Mathlib.Omega.{arith}
 use Prim.Native.Nat.{_-_, _≤_}
 use mathlib.Core.Path.{_≡_, _∙_}
 use lib.ListN.{length}
-use Rattle.single_product.specs.Long.{addedFrom, from-first, from-last, from-next}
-use Rattle.single_product.proofs.add_coefficients.Statement.{statement}
-use Rattle.single_product.proofs.add_coefficients.Tie as tie
+use Rattle.coefficients.specs.From.{addedFrom, from-first, from-last, from-next}
+use Rattle.coefficients.proofs.add_from.Statement.{statement}
+use Rattle.coefficients.proofs.add_from.Tie as tie
 
 abbrev Inv-loop : tie.InvT-loop
 Inv-loop p n w₀ a b t first end-a end-b k₀ w k =
@@ -99,8 +99,8 @@ returns c =
     let all : c .before .loop .k ≡ args .n = omega arith in
     c .before .loop .inv .3 ∙ rw all (from-last (args .p) (args .n) (args .a) (args .b) (args .t) (args .first) (args .w .now))
 
-pub add-coefficients-spec : {M : Type 1} → statement M
-add-coefficients-spec =
+pub add-from-spec : {M : Type 1} → statement M
+add-from-spec =
     tie.close
     (tie.spec
     Inv-loop
