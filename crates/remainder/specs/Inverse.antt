@@ -8,19 +8,16 @@
 --   below near       the estimated quotient is not too large, and not much too small
 --   first-step       the first multiple of m that is taken off leaves a number below 2^44 with the same remainder
 --   second-step      the second one leaves a number below 2 m
---   taken-off        m itself
 -- Assumes nothing.
 use Prim.Native.Nat.{ℕ, _+_, _-_, _*_, _/_, _%_, _<_, _≤_, _^_}
 use native.Mathlib.Nat.{
   add-mul,
   add-mul-mod-self-right,
-  add-zero,
   div-lt-iff-lt-mul,
   div-mul-le-self,
   le-of-lt,
   lt-div-mul-add,
   lt-mul-div-succ,
-  mod-self,
   mul-add,
   mul-assoc,
   mul-div-le,
@@ -28,11 +25,9 @@ use native.Mathlib.Nat.{
   mul-le-mul-left,
   mul-le-mul-right,
   one-mul,
-  sub-zero,
 }
 use native.Mathlib.Omega.{arith}
 use mathlib.Core.Path.{_≡_, sym, ap, _∙_}
-use Rattle.definition.specs.KinoshitaLi.{negative}
 use Rattle.remainder.specs.Sums.{lowPart, part-whole}
 use Rattle.residue.specs.Residue.{product-below}
 
@@ -104,7 +99,3 @@ module _ {m i : ℕ} (b : Between m) (inverse : i ≡ (2 ^ 62 - 1) / m) where
       let fits : y ≤ r = omega (arith, below (r / 4096) (2 ^ 50) e f) in
       let left : r ≡ r - y + x / 2 ^ 50 * m = rw (← f) (omega arith) in
       (fits, omega (arith, near (r / 4096) (2 ^ 50) e f (omega arith) (omega arith), b .above), sym (ap (λ t. t % m) left ∙ add-mul-mod-self-right (r - y) (x / 2 ^ 50) m))
-
-pub taken-off : (m t : ℕ) → (t + negative m m) % m ≡ t % m
-unfolding negative
-taken-off m t = rw (mod-self, sub-zero, mod-self, add-zero)

@@ -1,4 +1,4 @@
--- The laws behind sums and differences of residues.
+-- The laws behind sums and differences of residues and products of small numbers.
 --
---   Residue   sums and differences of residues without a division
+--   Residue   sums and differences without a division, and a bound of a product
 pub mod Residue

@@ -1,9 +1,10 @@
 -- The product by rows: what the rows add up to, and its remainders.
 --
---   residueList p n x     the first n places of x modulo p
+--   residueList p n x     the first n places of x modulo p, residueAt at each place
+--   length-residueList residue-below   they are n residues
 --   product-residues      a product of two lists modulo p is that of their residues
 --   kept-sum kept-small kept-few   what is kept of a sum of few terms determines it, and its parts are small
---   Zeros c zs            zeros, as a local list is made
+--   Zeros c zs            zeros, as a local list is made (zeros-replicate)
 --   factors               lists read into zeros are factors of a product by rows
 --   product-by-rows       the remainders of the sums of all rows are the product
 --   summed-none summed-small   no row is added yet; all are

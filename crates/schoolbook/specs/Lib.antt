@@ -1,4 +1,4 @@
 -- The laws behind a product by rows.
 --
---   ByRows       the remainders of the sums by rows, and the product
+--   ByRows   what the rows add up to, and its remainders
 pub mod ByRows

@@ -1,9 +1,9 @@
 -- `remainder::by_multiplication` meets its contract. Assumes nothing.
 use borrow.Author.Needs.{needs}
-use native.Mathlib.Nat.{le-refl}
+use native.Mathlib.Nat.{add-zero, le-refl, sub-self}
 use native.Mathlib.Omega.{arith}
 use mathlib.Core.Path.{_∙_}
-use Rattle.remainder.specs.Inverse.{taken-off}
+use Rattle.residue.specs.Residue.{negative-sum}
 use Rattle.remainder.proofs.by_multiplication.Statement.{statement}
 use Rattle.remainder.proofs.by_multiplication.Tie as tie
 
@@ -34,8 +34,9 @@ returns : tie.Need-returns
 returns c =
     let made = c .before in
     c .difference .ensures
-    ∙ taken-off _ _
-    ∙ rw (made .before .before .wide .ensures) at (made .to-twice .ensures .1 ∙ made .before .to-44-bits .ensures .1)
+    ∙ negative-sum (le-refl _) _
+    ∙ rw (sub-self, add-zero)
+    (rw (made .before .before .wide .ensures) at (made .to-twice .ensures .1 ∙ made .before .to-44-bits .ensures .1))
 
 pub by-multiplication-spec : {M : Type 1} → statement M
 by-multiplication-spec =

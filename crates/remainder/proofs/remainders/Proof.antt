@@ -1,5 +1,6 @@
 -- `remainder::remainders` meets its contract. Assumes nothing.
 use borrow.Author.Needs.{needs}
+use native.Mathlib.Omega.{arith}
 use Rattle.remainder.specs.Inverse.{between}
 use Rattle.remainder.proofs.remainders.Statement.{statement}
 use Rattle.remainder.proofs.remainders.Tie as tie
@@ -13,7 +14,7 @@ div-if1 c = search needs
 by-inverse-requires : tie.Need-by-inverse-requires
 by-inverse-requires c κs =
     let start = c .before .before .before .before .before .before in
-    (between (start .pre .0) (rw (c .before .before .wide .ensures) at (c .before .if1 .taken)), start .pre .1, start .pre .2)
+    (between (start .pre .0) (rw (← c .before .before .wide .ensures) (omega arith)), start .pre .1, start .pre .2)
 
 by-division-requires : tie.Need-by-division-requires
 by-division-requires c κs = search needs

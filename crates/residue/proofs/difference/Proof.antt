@@ -1,5 +1,6 @@
 -- `residue::difference` meets its contract. Assumes nothing.
 use borrow.Author.Needs.{needs}
+use native.Mathlib.Omega.{arith}
 use Rattle.residue.specs.Residue.{wrapped-difference}
 use Rattle.residue.proofs.difference.Statement.{statement}
 use Rattle.residue.proofs.difference.Tie as tie
@@ -16,8 +17,8 @@ returns c =
     wrapped-difference
     (start .pre .0)
     (start .pre .1)
-    (λ i. i .taken)
-    (λ i. i .left)
+    (λ i. omega (arith, i .taken))
+    (λ i. omega (arith, i .left))
     (start .fits .p .fits)
     (search needs)
     (c .before .wrapping-sub-u32 .ensures)

@@ -12,7 +12,7 @@ difference-requires : tie.Need-difference-requires
 difference-requires c κs = search needs
 
 returns : tie.Need-returns
-returns c = c .difference .ensures ∙ sum-difference (c .before .pre .0) (c .before .pre .1)
+returns c = c .difference .ensures ∙ sum-difference (c .before .pre .1) _
 
 pub sum-spec : {M : Type 1} → statement M
 sum-spec = tie.close (tie.spec sub-difference difference-requires returns)
