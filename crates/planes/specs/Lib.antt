@@ -1,0 +1,4 @@
+-- Laws of products of polynomials in x and y over the natural numbers and modulo p.
+--
+--   Products   squares
+pub mod Products

@@ -1,0 +1,45 @@
+-- Products of polynomials in x and y. A polynomial is a function: a j i is the coefficient of y^j x^i.
+--
+--   square             in a square the terms l and j - l are equal: those below the middle count twice
+-- Assumes nothing.
+use Prim.Native.Nat.{ℕ, zero, suc, _+_, _-_, _/_, _<_, _≤_}
+use native.Mathlib.Nat.{add-comm, suc-sub-suc}
+use native.Mathlib.Omega.{arith}
+use mathlib.Core.Path.{_≡_, refl, ap, _∙_}
+use Rattle.algebra.specs.Bridge.{product-series}
+use Rattle.algebra.specs.Lists.{sum-cong, sum-naturals}
+use Rattle.algebra.specs.Semiring.{naturals, ⊗-comm}
+use Rattle.algebra.specs.Series.{series}
+use Rattle.algebra.specs.Sum as Sum
+use Rattle.definition.specs.KinoshitaLi.{product2, product2Term}
+use Rattle.definition.specs.Lists.{sum}
+
+sum-reverse : (n : ℕ) (f : ℕ → ℕ) → sum n (λ k. f (n - suc k)) ≡ sum n f
+unfolding sum
+sum-reverse zero f = refl
+sum-reverse (suc n) f =
+    let e : suc n - 1 ≡ n = omega arith in
+    rw (sum-naturals, Sum.sum-first naturals n (λ k. f (suc n - suc k)), ← sum-naturals, e)
+    (simp suc-sub-suc (rw (sum-reverse n f) (add-comm (f n) (sum n f))))
+
+sum-symmetric : (j : ℕ) (f : ℕ → ℕ) → ((l : ℕ) → l ≤ j → f (j - l) ≡ f l) → sum (suc j) f ≡ sum ((j + 1) / 2) f + sum (j / 2 + 1) f
+sum-symmetric j f h =
+    let e : suc j ≡ j / 2 + 1 + (j + 1) / 2 = omega arith in
+    rw (e, sum-naturals, Sum.sum-+ naturals, ← sum-naturals, ← sum-naturals)
+    (add-comm _ _
+    ∙ ap (λ s. s + sum (j / 2 + 1) f) (sum-cong ((j + 1) / 2) _ _ above ∙ sum-reverse ((j + 1) / 2) f))
+  where
+    above : (k : ℕ) → k < (j + 1) / 2 → f (j / 2 + 1 + k) ≡ f ((j + 1) / 2 - suc k)
+    above k b =
+        let e : j / 2 + 1 + k ≡ j - ((j + 1) / 2 - suc k) = omega arith in
+        rw e (h ((j + 1) / 2 - suc k) (omega arith))
+
+pub square : (a : ℕ → ℕ → ℕ) (j i : ℕ)
+    → product2 a a j i ≡ sum ((j + 1) / 2) (product2Term a a j i) + sum (j / 2 + 1) (product2Term a a j i)
+unfolding product2 product2Term
+square a j i = sum-symmetric j (product2Term a a j i) exchanged
+  where
+    exchanged : (l : ℕ) → l ≤ j → product2Term a a j i (j - l) ≡ product2Term a a j i l
+    exchanged l b =
+        let e : j - (j - l) ≡ l = omega arith in
+        rw (e, product-series, product-series, ⊗-comm (series naturals))
