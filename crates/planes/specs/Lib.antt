@@ -1,4 +1,4 @@
 -- Laws of products of polynomials in x and y over the natural numbers and modulo p.
 --
---   Products   squares
+--   Products   squares, x and y exchanged
 pub mod Products

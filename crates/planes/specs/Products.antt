@@ -1,8 +1,10 @@
 -- Products of polynomials in x and y. A polynomial is a function: a j i is the coefficient of y^j x^i.
 --
 --   square             in a square the terms l and j - l are equal: those below the middle count twice
+--   turned a           x and y exchanged
+--   turned-product     the product of two turned polynomials is their product, turned
 -- Assumes nothing.
-use Prim.Native.Nat.{ℕ, zero, suc, _+_, _-_, _/_, _<_, _≤_}
+use Prim.Native.Nat.{ℕ, zero, suc, _+_, _-_, _*_, _/_, _<_, _≤_}
 use native.Mathlib.Nat.{add-comm, suc-sub-suc}
 use native.Mathlib.Omega.{arith}
 use mathlib.Core.Path.{_≡_, refl, ap, _∙_}
@@ -13,6 +15,7 @@ use Rattle.algebra.specs.Series.{series}
 use Rattle.algebra.specs.Sum as Sum
 use Rattle.definition.specs.KinoshitaLi.{product2, product2Term}
 use Rattle.definition.specs.Lists.{sum}
+use Rattle.definition.specs.Substitution.{product, productTerm}
 
 sum-reverse : (n : ℕ) (f : ℕ → ℕ) → sum n (λ k. f (n - suc k)) ≡ sum n f
 unfolding sum
@@ -43,3 +46,17 @@ square a j i = sum-symmetric j (product2Term a a j i) exchanged
     exchanged l b =
         let e : j - (j - l) ≡ l = omega arith in
         rw (e, product-series, product-series, ⊗-comm (series naturals))
+
+product2-sum : (a b : ℕ → ℕ → ℕ) (j i : ℕ)
+    → product2 a b j i ≡ Sum.sum naturals (suc j) (λ l. Sum.sum naturals (suc i) (λ k. a l k * b (j - l) (i - k)))
+unfolding product2 product2Term product productTerm
+product2-sum a b j i =
+    sum-naturals (suc j) (product2Term a b j i)
+    ∙ Sum.sum-cong naturals (suc j) _ _ (λ l c. sum-naturals (suc i) (productTerm (a l) (b (j - l)) i))
+
+unfoldable pub turned : (ℕ → ℕ → ℕ) → ℕ → ℕ → ℕ
+turned a i j = a j i
+
+pub turned-product : (a b : ℕ → ℕ → ℕ) (j i : ℕ) → product2 (turned a) (turned b) i j ≡ product2 a b j i
+unfolding turned
+turned-product a b j i = rw (product2-sum, product2-sum) (Sum.sum-exchange naturals (suc i) (suc j) _)
