@@ -3,17 +3,22 @@
 --   square             in a square the terms l and j - l are equal: those below the middle count twice
 --   turned a           x and y exchanged
 --   turned-product     the product of two turned polynomials is their product, turned
+--   residues2          a product modulo p is that of the residues
 -- Assumes nothing.
-use Prim.Native.Nat.{ℕ, zero, suc, _+_, _-_, _*_, _/_, _<_, _≤_}
-use native.Mathlib.Nat.{add-comm, suc-sub-suc}
+use Prim.Native.Nat.{ℕ, zero, suc, _+_, _-_, _*_, _/_, _%_, _<_, _≤_}
+use native.Mathlib.Nat.{add-comm, mod-mod, suc-sub-suc}
 use native.Mathlib.Omega.{arith}
-use mathlib.Core.Path.{_≡_, refl, ap, _∙_}
+use mathlib.Core.Path.{_≡_, refl, sym, ap, fun-ext, _∙_}
 use Rattle.algebra.specs.Bridge.{product-series}
+use Rattle.algebra.specs.Homomorphism.{coefficients-at, coefficientwise}
 use Rattle.algebra.specs.Lists.{sum-cong, sum-naturals}
-use Rattle.algebra.specs.Semiring.{naturals, ⊗-comm}
+use Rattle.algebra.specs.Plane.{Plane}
+use Rattle.algebra.specs.PlaneBridge.{reduced-plane, reduced-product2}
+use Rattle.algebra.specs.Residue.{residue, residue-equal, residues, reduction}
+use Rattle.algebra.specs.Semiring.{Semiring, naturals, ⊗-comm}
 use Rattle.algebra.specs.Series.{series}
 use Rattle.algebra.specs.Sum as Sum
-use Rattle.definition.specs.KinoshitaLi.{product2, product2Term}
+use Rattle.definition.specs.KinoshitaLi.{product2, product2Term, cutProduct2At}
 use Rattle.definition.specs.Lists.{sum}
 use Rattle.definition.specs.Substitution.{product, productTerm}
 
@@ -60,3 +65,19 @@ turned a i j = a j i
 pub turned-product : (a b : ℕ → ℕ → ℕ) (j i : ℕ) → product2 (turned a) (turned b) i j ≡ product2 a b j i
 unfolding turned
 turned-product a b j i = rw (product2-sum, product2-sum) (Sum.sum-exchange naturals (suc i) (suc j) _)
+
+module _ {p : ℕ} (l : 0 < p) where
+  open Semiring (series (series (residues l))) using (_⊗_)
+
+  reduced-at : (a : Plane ℕ) (j i : ℕ) → reduced-plane l a j i ≡ residue l (a j i)
+  reduced-at a j i = rw (coefficients-at (coefficientwise (reduction l))) (coefficients-at (reduction l) (a j) i)
+
+  residue-product : (a b : Plane ℕ) (j i : ℕ) → residue l (product2 a b j i) ≡ (reduced-plane l a ⊗ reduced-plane l b) j i
+  residue-product a b j i = sym (reduced-at (product2 a b) j i) ∙ ap (λ s. s j i) (reduced-product2 l a b)
+
+  reduced-residues : (a : Plane ℕ) → reduced-plane l (λ j i. a j i % p) ≡ reduced-plane l a
+  reduced-residues a = fun-ext λ j. fun-ext λ i. rw (reduced-at, reduced-at) (residue-equal l _ _ .1 (mod-mod (a j i) p))
+
+  pub residues2 : (a b : Plane ℕ) (j i : ℕ) → cutProduct2At p (λ j i. a j i % p) (λ j i. b j i % p) j i ≡ cutProduct2At p a b j i
+  unfolding cutProduct2At
+  residues2 a b j i = residue-equal l _ _ .0 (rw (residue-product, residue-product, reduced-residues a, reduced-residues b))
