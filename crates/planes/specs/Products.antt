@@ -3,7 +3,10 @@
 --   square             in a square the terms l and j - l are equal: those below the middle count twice
 --   turned a           x and y exchanged
 --   turned-product     the product of two turned polynomials is their product, turned
+--   product2-comm      the product is commutative
+--   product2-agree     below y^m and x^r it depends on its factors only there
 --   residues2          a product modulo p is that of the residues
+--   residue-negated negative-product   the product with -b modulo p
 -- Assumes nothing.
 use Prim.Native.Nat.{ℕ, zero, suc, _+_, _-_, _*_, _/_, _%_, _<_, _≤_}
 use native.Mathlib.Nat.{add-comm, mod-mod, suc-sub-suc}
@@ -12,13 +15,24 @@ use mathlib.Core.Path.{_≡_, refl, sym, ap, fun-ext, _∙_}
 use Rattle.algebra.specs.Bridge.{product-series}
 use Rattle.algebra.specs.Homomorphism.{coefficients-at, coefficientwise}
 use Rattle.algebra.specs.Lists.{sum-cong, sum-naturals}
-use Rattle.algebra.specs.Plane.{Plane}
-use Rattle.algebra.specs.PlaneBridge.{reduced-plane, reduced-product2}
-use Rattle.algebra.specs.Residue.{residue, residue-equal, residues, reduction}
+use Rattle.algebra.specs.Negation.{Negation, ⊗-neg}
+use Rattle.algebra.specs.Plane.{Plane, AgreePlane, agree-plane-⊠}
+use Rattle.algebra.specs.PlaneBridge.{product2-series, reduced-plane, reduced-product2}
+use Rattle.algebra.specs.Residue.{
+  Residue,
+  neg-value,
+  reduction,
+  residue,
+  residue-equal,
+  residue-negative,
+  residue-value,
+  residues,
+  residues-negation,
+}
 use Rattle.algebra.specs.Semiring.{Semiring, naturals, ⊗-comm}
-use Rattle.algebra.specs.Series.{series}
+use Rattle.algebra.specs.Series.{series, series-negation, neg-at}
 use Rattle.algebra.specs.Sum as Sum
-use Rattle.definition.specs.KinoshitaLi.{product2, product2Term, cutProduct2At}
+use Rattle.definition.specs.KinoshitaLi.{cutProduct2At, negative, product2, product2Term}
 use Rattle.definition.specs.Lists.{sum}
 use Rattle.definition.specs.Substitution.{product, productTerm}
 
@@ -30,7 +44,8 @@ sum-reverse (suc n) f =
     rw (sum-naturals, Sum.sum-first naturals n (λ k. f (suc n - suc k)), ← sum-naturals, e)
     (simp suc-sub-suc (rw (sum-reverse n f) (add-comm (f n) (sum n f))))
 
-sum-symmetric : (j : ℕ) (f : ℕ → ℕ) → ((l : ℕ) → l ≤ j → f (j - l) ≡ f l) → sum (suc j) f ≡ sum ((j + 1) / 2) f + sum (j / 2 + 1) f
+sum-symmetric : (j : ℕ) (f : ℕ → ℕ) → ((l : ℕ) → l ≤ j → f (j - l) ≡ f l)
+    → sum (suc j) f ≡ sum ((j + 1) / 2) f + sum (j / 2 + 1) f
 sum-symmetric j f h =
     let e : suc j ≡ j / 2 + 1 + (j + 1) / 2 = omega arith in
     rw (e, sum-naturals, Sum.sum-+ naturals, ← sum-naturals, ← sum-naturals)
@@ -66,8 +81,22 @@ pub turned-product : (a b : ℕ → ℕ → ℕ) (j i : ℕ) → product2 (turne
 unfolding turned
 turned-product a b j i = rw (product2-sum, product2-sum) (Sum.sum-exchange naturals (suc i) (suc j) _)
 
+pub product2-comm : (a b : Plane ℕ) (j i : ℕ) → product2 a b j i ≡ product2 b a j i
+product2-comm a b j i = rw (product2-series, product2-series, ⊗-comm (series (series naturals)))
+
+pub product2-agree : {m r : ℕ} {a b c d : Plane ℕ} → AgreePlane m r a c → AgreePlane m r b d
+    → AgreePlane m r (product2 a b) (product2 c d)
+product2-agree h g = rw (product2-series, product2-series) (agree-plane-⊠ naturals h g)
+
 module _ {p : ℕ} (l : 0 < p) where
-  open Semiring (series (series (residues l))) using (_⊗_)
+  abbrev R : Semiring (Residue p)
+  R = residues l
+
+  abbrev N : Negation R
+  N = residues-negation l
+
+  open Semiring (series (series R)) using (_⊗_)
+  open Negation (series-negation (series R) (series-negation R N)) using (neg)
 
   reduced-at : (a : Plane ℕ) (j i : ℕ) → reduced-plane l a j i ≡ residue l (a j i)
   reduced-at a j i = rw (coefficients-at (coefficientwise (reduction l))) (coefficients-at (reduction l) (a j) i)
@@ -81,3 +110,18 @@ module _ {p : ℕ} (l : 0 < p) where
   pub residues2 : (a b : Plane ℕ) (j i : ℕ) → cutProduct2At p (λ j i. a j i % p) (λ j i. b j i % p) j i ≡ cutProduct2At p a b j i
   unfolding cutProduct2At
   residues2 a b j i = residue-equal l _ _ .0 (rw (residue-product, residue-product, reduced-residues a, reduced-residues b))
+
+  reduced-negative : (b : Plane ℕ) → reduced-plane l (λ j i. negative p (b j i)) ≡ neg (reduced-plane l b)
+  reduced-negative b = fun-ext λ j. fun-ext λ i.
+      rw (reduced-at, residue-negative l, neg-at (series R), neg-at R, reduced-at)
+
+  pub residue-negated : (a b : Plane ℕ) (j i : ℕ)
+      → residue l (product2 a (λ j i. negative p (b j i)) j i) ≡ N .neg (residue l (product2 a b j i))
+  residue-negated a b j i =
+      rw (residue-product, residue-product, reduced-negative b, ⊗-neg (series (series R)), neg-at (series R), neg-at R)
+
+  pub negative-product : (a b : Plane ℕ) (j i : ℕ)
+      → cutProduct2At p a (λ j i. negative p (b j i)) j i ≡ negative p (cutProduct2At p a b j i)
+  unfolding cutProduct2At
+  negative-product a b j i =
+      rw (← residue-value l, ← residue-value l (product2 a b j i), residue-negated a b) (neg-value l _)
