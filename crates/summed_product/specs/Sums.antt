@@ -2,7 +2,7 @@
 --
 --   Sums n m s h f      place t keeps f t, for t below n
 --   sums-none           zeros keep 0
---   sums-added sums-double   what is added is kept, and what is doubled
+--   sums-added sums-double sums-wider   what is added is kept, what is doubled, and with a larger bound
 --   sums-small          the parts of what few terms add up to are small
 --   sums-remainders     the remainders of the sums are those of the numbers
 -- Assumes nothing.
@@ -15,7 +15,7 @@ use lib.ListN.{length, getD}
 use Rattle.algebra.specs.Lists.{tabulate-cong}
 use Rattle.definition.specs.Lists.{coefficient, tabulate}
 use Rattle.remainder.specs.Sums.{Small, lowPart, remainderAt, remainderList}
-use Rattle.rows.specs.Rows.{Kept, kept-none, kept-wider}
+use Rattle.rows.specs.Rows.{Kept, kept-double, kept-none, kept-wider}
 use Rattle.summed_product.specs.Terms.{Added}
 
 pub record Sums (n m : ℕ) (s h : List ℕ) (f : ℕ → ℕ) : Type 0 where
@@ -27,6 +27,14 @@ sums-none e f = record { place = λ t b. rw (e t b, f t b) kept-none }
 pub sums-added : {n m k : ℕ} {s s′ h h′ : List ℕ} {f g d : ℕ → ℕ} → m + k ≤ 2 ^ 31 → Sums n m s h f → Added n k s s′ h h′ g
     → ((t : ℕ) → t < n → d t ≡ f t + g t) → Sums n (m + k) s′ h′ d
 sums-added b sums added e = record { place = λ t c. rw (e t c) (added .place t c .kept b (sums .place t c)) }
+
+pub sums-double : {n m : ℕ} {s s′ h h′ : List ℕ} {f : ℕ → ℕ} → m + m ≤ 2 ^ 31 → Sums n m s h f
+    → ((t : ℕ) → t < n → getD s′ t 0 ≡ (getD s t 0 + getD s t 0) % 2 ^ 64)
+    → ((t : ℕ) → t < n → getD h′ t 0 ≡ (getD h t 0 + getD h t 0) % 2 ^ 64) → Sums n (m + m) s′ h′ (λ t. f t + f t)
+sums-double b sums e g = record { place = λ t c. rw (e t c, g t c) (kept-double b (sums .place t c)) }
+
+pub sums-wider : {n m k : ℕ} {s h : List ℕ} {f d : ℕ → ℕ} → m ≤ k → ((t : ℕ) → t < n → d t ≡ f t) → Sums n m s h f → Sums n k s h d
+sums-wider b e sums = record { place = λ t c. rw (e t c) (kept-wider b (sums .place t c)) }
 
 module _ {v c s h : ℕ} (k : Kept v c s h) (b : c ≤ 2 ^ 14 - 1) where
   few : c * (2 ^ 32 - 1) ≤ (2 ^ 14 - 1) * (2 ^ 32 - 1)
