@@ -30,10 +30,10 @@ loop-holds : tie.Need-loop-holds Inv-loop μ-loop
 loop-holds c = (omega arith, refl, refl, refl, results-first _ _ _)
 
 mul-from : tie.Need-mul-from Inv-loop μ-loop
-mul-from c = record { fits = omega (arith, fits-z (c .before .before .before) (c .before .before .loop-test .taken), start (c .before .before .before) .fits) }
+mul-from c = record { fits = omega (arith, fits-z (c .before .before .before) (c .before .if1 .taken), start (c .before .before .before) .fits) }
 
 add-to : tie.Need-add-to Inv-loop μ-loop
-add-to c = record { fits = omega (arith, fits-z (c .before .before .before .before) (c .before .before .before .loop-test .taken), start (c .before .before .before .before) .fits) }
+add-to c = record { fits = omega (arith, fits-z (c .before .before .before .before) (c .before .before .if1 .taken), start (c .before .before .before .before) .fits) }
 
 add-result : tie.Need-add-result Inv-loop μ-loop
 add-result c = search needs
@@ -45,7 +45,7 @@ slice-aggregate-result-2 : tie.Need-slice-aggregate-result-2 Inv-loop μ-loop
 slice-aggregate-result-2 c = search needs
 
 mul-result : tie.Need-mul-result Inv-loop μ-loop
-mul-result c = record { fits = omega (arith, fits-z (c .before .before .before .before .before .before) (c .before .before .before .before .before .loop-test .taken), start (c .before .before .before .before .before .before) .fits) }
+mul-result c = record { fits = omega (arith, fits-z (c .before .before .before .before .before .before) (c .before .before .before .before .if1 .taken), start (c .before .before .before .before .before .before) .fits) }
 
 sub-result : tie.Need-sub-result Inv-loop μ-loop
 sub-result c = search needs
@@ -54,14 +54,14 @@ part-result-start : tie.Need-part-result-start Inv-loop μ-loop
 part-result-start c = search needs
 
 part-result-end : tie.Need-part-result-end Inv-loop μ-loop
-part-result-end c = omega (arith, fits-z (c .before .before .before .before .before .before) (c .before .before .before .before .before .loop-test .taken), c .before .before .before .before .before .before .loop .inv .1)
+part-result-end c = omega (arith, fits-z (c .before .before .before .before .before .before) (c .before .before .before .before .if1 .taken), c .before .before .before .before .before .before .loop .inv .1)
 
 result-requires : tie.Need-result-requires Inv-loop μ-loop
 result-requires c κs =
     let at = c .before .before .before .before .before .before .before in
     let inv = at .loop .inv in
     let pre = start at .pre in
-    (pre .0, pre .1, result-rooms (pre .2) (at .loop .k) (c .before .before .before .before .before .before .loop-test .taken) _ _ (inv .4) (omega (arith, inv .2)) (omega (arith, inv .3)))
+    (pre .0, pre .1, result-rooms (pre .2) (at .loop .k) (c .before .before .before .before .before .if1 .taken) _ _ (inv .4) (omega (arith, inv .2)) (omega (arith, inv .3)))
 
 add-k : tie.Need-add-k Inv-loop μ-loop
 add-k c = search needs
@@ -74,11 +74,11 @@ loop-again c =
     let at = c .before .before .before .before .before .before .before .before .before .before .before .before in
     let inv = at .loop .inv in
     let pre = start at .pre in (
-      omega (arith, c .before .before .before .before .before .before .before .before .before .before .before .loop-test .taken),
+      omega (arith, c .before .before .before .before .before .before .before .before .before .before .if1 .taken),
       search needs,
       search needs,
       search needs,
-      results-next (pre .2) (at .loop .k) (c .before .before .before .before .before .before .before .before .before .before .before .loop-test .taken) _ _ (inv .4) (c .before .before .before .before .result .ensures),
+      results-next (pre .2) (at .loop .k) (c .before .before .before .before .before .before .before .before .before .before .if1 .taken) _ _ (inv .4) (c .before .before .before .before .result .ensures),
     )
 
 same-length : tie.Need-same-length Inv-loop μ-loop
@@ -88,7 +88,7 @@ returns : tie.Need-returns Inv-loop μ-loop
 returns c =
     let at = c .before .before in
     let inv = at .loop .inv in
-    let all : at .loop .k ≡ start at .args .t .count = omega (arith, inv .0, c .before .loop-test .left) in
+    let all : at .loop .k ≡ start at .args .t .count = omega (arith, inv .0, c .if1 .left) in
     rw all at (inv .4)
 
 pub multiply-spec : {M : Type 1} → statement M
