@@ -5,7 +5,7 @@
 --   member-past      entry i is not p: what is left of the list decides
 --   member-holds     what holds of every entry holds of a number that passes
 -- Assumes nothing.
-use Prim.Native.Nat.{ℕ, zero, suc, _+_, _<_}
+use Prim.Native.Nat.{ℕ, suc, _+_, _<_}
 use borrow.Author.Tests.{eq-eqb, eqb-true, ne-eqb}
 use lib.Dec.{eqb}
 use lib.ListN.{drop, getD, length}

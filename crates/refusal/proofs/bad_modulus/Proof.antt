@@ -1,6 +1,5 @@
 -- `refusal::bad_modulus` meets its contract: a number of the table is a prime below the largest modulus, and of any other what the refusing
 -- constructor answers tells. Assumes nothing.
-use Prim.Native.Nat.{_≤_}
 use borrow.Author.Needs.{needs}
 use mathlib.Core.Path.{sym, _∙_}
 use native.Mathlib.Omega.{arith}
