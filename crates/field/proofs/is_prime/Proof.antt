@@ -44,7 +44,7 @@ rem-if6 c = search needs
 -- inside the loop: the square of d is at most p
 within : (c : tie.Then5 Inv-loop μ-loop) →
     c .before .before .loop .d * c .before .before .loop .d ≤ c .before .before .before .before .before .before .before .args .p
-within c = rw (sym (c .before .whole-product .ensures)) (c .if5 .taken)
+within c = omega (arith, c .before .whole-product .ensures, c .if5 .taken)
 
 returns-5 : tie.Need-returns-5 Inv-loop μ-loop
 returns-5 c = sym (tried-divided (c .before .before .before .loop .inv .tried) (within (c .before)) (c .if6 .taken))
