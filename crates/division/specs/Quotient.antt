@@ -25,7 +25,7 @@ use Rattle.algebra.specs.PlaneBridge.{quotient-listed}
 use Rattle.algebra.specs.Residue.{Residue, reduction, residue-0, residue-negative, residues, residues-negation}
 use Rattle.algebra.specs.Semiring.{Semiring}
 use Rattle.buffer.specs.Written.{getD-sets-inside, length-part}
-use Rattle.definition.specs.KinoshitaLi.{negative, quotient, quotientNext}
+use Rattle.definition.specs.KinoshitaLi.{negative, quotient}
 use Rattle.definition.specs.Lists.{coefficient, tabulate}
 use Rattle.definition.specs.Substitution.{cutProduct}
 use Rattle.buffer.specs.Segments.{segment}
