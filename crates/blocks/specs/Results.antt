@@ -4,8 +4,8 @@
 --   tile-first tile-next tile-last   nothing of a result is written, one more part, and all of it
 --   results-first results-next   no result, and one more
 -- Assumes nothing.
-use Prim.Native.Nat.{ℕ, suc, _+_, _-_, _*_, _<_, _≤_}
-use native.Mathlib.Nat.{add-assoc, mul-le-mul-right, suc-mul, zero-add}
+use Prim.Native.Nat.{ℕ, _+_, _-_, _*_, _<_, _≤_}
+use native.Mathlib.Nat.{add-assoc, zero-add}
 use native.Mathlib.Numerals.{add-one}
 use native.Mathlib.Omega.{arith}
 use mathlib.Core.List.{List, _++_}
@@ -18,7 +18,7 @@ use Rattle.buffer.specs.Segments.{segment}
 use Rattle.buffer.specs.Written.{length-part, sets-append, sets-part, sets-whole}
 use Rattle.definition.specs.KinoshitaLi.{plane}
 use Rattle.definition.specs.Lists.{tabulate}
-use Rattle.planes.specs.Rows.{plane-0, plane-suc, tabulate-+}
+use Rattle.planes.specs.Rows.{plane-0, plane-fits, plane-suc, tabulate-+}
 use Rattle.blocks.specs.Blocks.{Rooms, Target, Tiled, windowAt}
 use Rattle.blocks.specs.declared.Blocks.{Blocks}
 
@@ -73,11 +73,8 @@ pub results-first : (z : List ℕ) (n : ℕ) (a : ℕ → ℕ → ℕ) → z ≡
 results-first z n a = sym (rw (plane-0 n a))
 
 module _ {first low : ℕ} {t : Blocks} {z₀ : List ℕ} (target : Target first low t z₀) (k : ℕ) (below : k < t .count) where
-  more : suc k * t .length ≤ length z₀
-  more = omega (arith, mul-le-mul-right (t .length) below, target .room)
-
   pub result-fits : k * t .length + t .length ≤ length z₀
-  result-fits = omega (arith, more, suc-mul k (t .length))
+  result-fits = rw zero-add at (plane-fits {N = length z₀} 0 (t .length) (t .count) k (rw zero-add (target .room)) below)
 
   module _ (z : List ℕ) (a : ℕ → ℕ → ℕ) (e : z ≡ sets z₀ 0 (plane (t .length) k a)) where
     size : length z ≡ length z₀

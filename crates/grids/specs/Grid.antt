@@ -4,19 +4,17 @@
 --   gridPlace p w g l k           place k of block l
 --   Readable g w                  the places of the blocks lie in w
 --   Clean p l                     residues modulo p, the first eight zero
---   load-fits load-first load-next   room for a block, no block is read, and one more
 --   loaded loaded-clean           what is read is a list of blocks, and clean
 --   gridValue loaded-at           a place of it
 -- Assumes nothing.
 use Prim.Native.Nat.{ℕ, zero, suc, _+_, _-_, _*_, _%_, _<_, _≤_, _^_}
 use native.Mathlib.Decide.{decLt}
 use native.Mathlib.Nat.{mod-lt, mul-le-mul-right, suc-mul}
-use native.Mathlib.Numerals.{add-one}
 use native.Mathlib.Omega.{arith}
 use borrow.Author.Tests.{le-ltb, lt-ltb}
 use mathlib.Core.Bool.{cond}
 use mathlib.Core.List.{List}
-use mathlib.Core.Path.{_≡_, sym, _∙_}
+use mathlib.Core.Path.{_≡_, _∙_}
 use lib.Arith.{digits-div, digits-mod}
 use lib.Dec.{ltb}
 use lib.ListN.{length, getD}
@@ -26,10 +24,9 @@ use Rattle.algebra.specs.Rows.{length-plane}
 use Rattle.blocks.specs.Blocks.{Blocked, blocksOf, block-at, block-beyond}
 use Rattle.blocks.specs.declared.Blocks.{Blocks}
 use Rattle.buffer.specs.Segments.{coefficient-segment, length-segment, segment}
-use Rattle.buffer.specs.Written.{getD-sets-inside, getD-sets-other, sets-append}
+use Rattle.buffer.specs.Written.{getD-sets-inside, getD-sets-other}
 use Rattle.definition.specs.KinoshitaLi.{plane, planePlace}
-use Rattle.definition.specs.Lists.{coefficient, tabulate}
-use Rattle.planes.specs.Rows.{plane-0, plane-suc}
+use Rattle.definition.specs.Lists.{coefficient}
 use Rattle.rows.specs.Rows.{Below}
 use Rattle.grids.specs.declared.Grid.{Grid}
 
@@ -66,17 +63,6 @@ block-below {p} l n w at inner k = go (decLt k n)
     go : Dec (k < n) → blockPlace p n w at inner k < p
     go (yes h) = rw (block-inside p n w at inner k h) (mod-lt _ l)
     go (no h) = rw (block-behind p n w at inner k (omega arith)) l
-
-pub load-fits : {N : ℕ} (n count l : ℕ) → 8 + count * n ≤ N → l < count → 8 + l * n + n ≤ N
-load-fits n count l room h = omega (arith, mul-le-mul-right n h, suc-mul l n)
-
-pub load-first : (l : List ℕ) (n : ℕ) (a : ℕ → ℕ → ℕ) → l ≡ sets l 8 (plane n 0 a)
-load-first l n a = sym (rw (plane-0 n a))
-
-pub load-next : {l l′ : List ℕ} (l₀ : List ℕ) (n k : ℕ) (a : ℕ → ℕ → ℕ) → l ≡ sets l₀ 8 (plane n k a) → l′ ≡ sets l (8 + k * n) (tabulate n (a k))
-    → l′ ≡ sets l₀ 8 (plane n (k + 1) a)
-load-next l₀ n k a e f =
-    f ∙ rw (e, add-one, plane-suc n k a) (sym (rw (length-plane n k a) at (sets-append l₀ 8 (plane n k a) (tabulate n (a k)))))
 
 -- the blocks have been read
 module _ {p : ℕ} (positive : 0 < p) (w : List ℕ) (g : Grid) {l₀ l : List ℕ} (clean : Clean p l₀)

@@ -5,7 +5,8 @@ use Prim.Native.Nat.{_+_, _*_, _-_, _<_, _≤_}
 use lib.ListN.{length}
 use lib.Seq.{sets}
 use Rattle.definition.specs.KinoshitaLi.{plane}
-use Rattle.grids.specs.Grid.{gridPlace, load-first, load-fits, load-next}
+use Rattle.grids.specs.Grid.{gridPlace}
+use Rattle.planes.specs.Rows.{plane-first, plane-fits, plane-next}
 use mathlib.Core.Path.{_≡_, refl}
 use Rattle.grids.proofs.load.Statement.{statement}
 use Rattle.grids.proofs.load.Tie as tie
@@ -22,10 +23,10 @@ start c = c .before .before .before
 
 room : (c : tie.At-loop Inv-loop μ-loop) → c .loop .l < start c .args .g .count
     → 8 + c .loop .l * (start c .args .g .length + 8) + (start c .args .g .length + 8) ≤ length (start c .args .into .now)
-room c below = load-fits (start c .args .g .length + 8) (start c .args .g .count) (c .loop .l) (start c .pre .2) below
+room c below = plane-fits 8 (start c .args .g .length + 8) (start c .args .g .count) (c .loop .l) (start c .pre .2) below
 
 loop-holds : tie.Need-loop-holds Inv-loop μ-loop
-loop-holds c = (omega arith, refl, load-first _ _ _)
+loop-holds c = (omega arith, refl, plane-first _ _ _ _)
 
 mul-load-block : tie.Need-mul-load-block Inv-loop μ-loop
 mul-load-block c = record { fits = omega (arith, start (c .before .before .before) .pre .1 .begins _ (c .before .if1 .taken)) }
@@ -59,7 +60,7 @@ loop-less c = omega (arith, c .before .before .before .before .before .before .b
 loop-again : tie.Need-loop-again Inv-loop μ-loop
 loop-again c =
     let at = c .before .before .before .before .before .before .before .before .before in
-    (omega (arith, c .before .before .before .before .before .before .before .if1 .taken), search needs, load-next _ _ _ _ (at .loop .inv .2) (c .before .before .load-block .ensures))
+    (omega (arith, c .before .before .before .before .before .before .before .if1 .taken), search needs, plane-next _ _ _ _ _ (at .loop .inv .2) (c .before .before .load-block .ensures))
 
 same-length : tie.Need-same-length Inv-loop μ-loop
 same-length c = search needs

@@ -1,0 +1,154 @@
+-- The even and the odd powers of x in rows of a buffer, as parts that are read into blocks.
+--
+--   rowsAt r w at rows     the polynomial in so many rows of r places from `at` on
+--   every-even every-odd   the parts that are read are its even and its odd part
+--   Reading                rows that can be read
+--   even-source odd-source   so can its parts
+--   blocks-few             the places that they take in blocks, where the product of both directions is at most s²
+--   packed-at packed-below   a place of a packed list, and all places are residues
+-- Assumes nothing.
+use Prim.Native.Nat.{ℕ, suc, _+_, _-_, _*_, _/_, _%_, _<_, _≤_, _^_}
+use native.Mathlib.Decide.{decLe, decLt}
+use native.Mathlib.Nat.{add-mul, add-zero, mod-lt, mul-add, mul-comm, mul-le-mul, mul-le-mul-left, mul-le-mul-right, one-mul, suc-mul, zero-add}
+use native.Mathlib.Omega.{arith, by-contra}
+use borrow.Author.Tests.{le-ltb, lt-ltb, ltb-false, ltb-true}
+use mathlib.Core.Bool.{Bool, cond, false, true}
+use mathlib.Core.List.{List}
+use mathlib.Core.Path.{_≡_, sym, ap, fun-ext, _∙_}
+use lib.Dec.{ltb}
+use lib.ListN.{length, getD}
+use lib.Seq.{sets}
+use Rattle.algebra.specs.Lists.{coefficient-tabulate, length-tabulate}
+use Rattle.algebra.specs.Rows.{coefficient-plane, length-plane, planeAt-above, planeAt-inside, planeAt-right}
+use Rattle.buffer.specs.Written.{getD-sets-inside, getD-sets-other}
+use Rattle.buffer.specs.Segments.{coefficient-segment, length-segment, segment}
+use Rattle.definition.specs.KinoshitaLi.{evenPart, plane, planeAt, planePlace}
+use Rattle.definition.specs.Lists.{ceilDiv, coefficient}
+use Rattle.grids.specs.Grid.{Clean}
+use Rattle.grids.specs.Parts.{Source, blockPlaces, every, packed}
+use Rattle.planes.specs.Products as planes
+use Rattle.planes.specs.Rows.{plane-fits}
+use Rattle.planes.specs.Parity.{oddPart}
+use Rattle.double_product.specs.Places.{packedAt}
+
+abbrev pub rowsAt : ℕ → List ℕ → ℕ → ℕ → ℕ → ℕ → ℕ
+rowsAt r w at rows = planeAt r (segment w at (rows * r))
+
+-- a place of the rows
+module _ (r : ℕ) (w : List ℕ) (at rows : ℕ) where
+  row-at : (j i : ℕ) → j < rows → i < r → rowsAt r w at rows j i ≡ coefficient w (at + (j * r + i))
+  row-at j i b c =
+      planeAt-inside r (segment w at (rows * r)) j i c
+      ∙ coefficient-segment w at (rows * r) (j * r + i) (omega (arith, mul-le-mul-right r b, suc-mul j r))
+
+  row-above : (j i : ℕ) → rows ≤ j → rowsAt r w at rows j i ≡ 0
+  row-above j i b = planeAt-above r rows (segment w at (rows * r)) (length-segment w at (rows * r)) j i b
+
+  row-right : (j i : ℕ) → r ≤ i → rowsAt r w at rows j i ≡ 0
+  row-right j i b = planeAt-right r (segment w at (rows * r)) j i b
+
+  -- every second place, from place c of a row on
+  second : (n c : ℕ) → c ≤ 1 → ((i : ℕ) → i < n → 2 * i + c < r) → ((i : ℕ) → n ≤ i → r ≤ 2 * i + c)
+      → (j i : ℕ) → every r n (at + c) rows w j i ≡ rowsAt r w at rows j (2 * i + c)
+  unfolding every
+  second n c small below beyond j i = go (decLt j rows) (decLt i n)
+    where
+      go : Dec (j < rows) → Dec (i < n) → every r n (at + c) rows w j i ≡ rowsAt r w at rows j (2 * i + c)
+      go (yes b) (yes d) =
+          let same : at + c + j * r + i * 2 ≡ at + (j * r + (2 * i + c)) = omega arith in
+          rw (lt-ltb j rows b, lt-ltb i n d, same) (sym (row-at j (2 * i + c) b (below i d)))
+      go (yes b) (no d) = rw (lt-ltb j rows b, le-ltb i n (omega arith)) (sym (row-right j (2 * i + c) (beyond i (omega arith))))
+      go (no b) d = rw (le-ltb j rows (omega arith)) (sym (row-above j (2 * i + c) (omega arith)))
+
+  pub every-even : every r (ceilDiv r 2) at rows w ≡ evenPart (rowsAt r w at rows)
+  unfolding evenPart ceilDiv
+  every-even = fun-ext λ j. fun-ext λ i.
+      rw (add-zero, add-zero) at (second ((r + (2 - 1)) / 2) 0 (omega arith) (λ k h. omega arith) (λ k h. omega arith) j i)
+
+  pub every-odd : every r (r - ceilDiv r 2) (at + 1) rows w ≡ oddPart (rowsAt r w at rows)
+  unfolding oddPart ceilDiv
+  every-odd = fun-ext λ j. fun-ext λ i. second (r - (r + (2 - 1)) / 2) 1 (omega arith) (λ k h. omega arith) (λ k h. omega arith) j i
+
+pub record Reading (p r at rows : ℕ) (w : List ℕ) : Type 0 where
+  pub modulus : 0 < p
+  pub positive : 0 < r
+  pub some : 0 < rows
+  pub source : at + rows * r ≤ length w
+  pub fits : length w < 2 ^ 64
+
+module _ {p r at rows : ℕ} {w : List ℕ} (reading : Reading p r at rows w) where
+  row-fits : (j : ℕ) → j < rows → at + j * r + r ≤ length w
+  row-fits j b = plane-fits at r rows j (reading .source) b
+
+  source-of : (turned : Bool) (n c : ℕ) {l : List ℕ} → ((i : ℕ) → i < n → 2 * i + c < r) → c ≤ r → Clean p l → 8 + blockPlaces turned n rows ≤ length l
+      → Source p turned r n w (at + c) rows l
+  source-of turned n c below few clean room = record {
+    modulus = reading .modulus;
+    clean = clean;
+    room = room;
+    columns = λ i b. omega (arith, row-fits 0 (reading .some), below i b, reading .fits);
+    lines = λ j b. omega (arith, row-fits j b, reading .fits);
+    inside = λ j i b c. omega (arith, row-fits j b, below i c);
+  }
+
+  pub even-source : (turned : Bool) {half : ℕ} {l : List ℕ} → half ≡ ceilDiv r 2 → Clean p l → 8 + blockPlaces turned half rows ≤ length l
+      → Source p turned r half w at rows l
+  unfolding ceilDiv
+  even-source turned {half} e clean room = rw add-zero at (source-of turned half 0 (λ i b. omega arith) (omega arith) clean room)
+
+  pub odd-source : (turned : Bool) {half : ℕ} {l : List ℕ} → half ≡ ceilDiv r 2 → Clean p l → 8 + blockPlaces turned (r - half) rows ≤ length l
+      → Source p turned r (r - half) w (at + 1) rows l
+  unfolding ceilDiv
+  odd-source turned {half} e clean room = source-of turned (r - half) 1 (λ i b. omega arith) (reading .positive) clean room
+
+-- the shorter direction is at most s
+shorter : (s a b : ℕ) → a ≤ b → a * b ≤ s * s → a ≤ s
+shorter s a b h area = by-contra a s (λ c.
+    omega (arith, mul-le-mul {n₁ = s + 1} {n₂ = a} {m₁ = s + 1} {m₂ = b} (omega arith) (omega arith), add-mul s 1 (s + 1), mul-add s s 1, one-mul (s + 1)))
+
+pub blocks-few : (s n half rows : ℕ) → n ≤ half → rows * half ≤ s * s → (turned : Bool) → turned ≡ ltb half rows
+    → blockPlaces turned n rows ≤ s * s + 8 * s
+unfolding blockPlaces
+blocks-few s n half rows less area true e =
+    let wide : half < rows = ltb-true half rows (sym e) in
+    let few : half ≤ s = shorter s half rows (omega arith) (rw (mul-comm half rows) area) in
+    omega (arith, mul-add n rows 8, mul-le-mul-right rows less, mul-comm half rows)
+blocks-few s n half rows less area false e =
+    let long : rows ≤ half = ltb-false half rows (sym e) in
+    let few : rows ≤ s = shorter s rows half long area in
+    omega (arith, mul-add rows n 8, mul-le-mul-left rows less)
+
+rows-below : (p : ℕ) {z : List ℕ} → ((k : ℕ) → getD z k 0 < p) → (k : ℕ) (g : ℕ → ℕ → ℕ) (a b : ℕ) → b * a ≤ length z → ((j i : ℕ) → g j i < p)
+    → getD (sets z 0 (plane a b g)) k 0 < p
+unfolding plane planePlace coefficient
+rows-below p {z} old k g a b fits small = go (decLt k (b * a))
+  where
+    go : Dec (k < b * a) → getD (sets z 0 (plane a b g)) k 0 < p
+    go (yes h) =
+        rw (
+          ← zero-add k,
+          getD-sets-inside z 0 (plane a b g) k 0 (rw (length-tabulate, zero-add) fits) (rw length-tabulate h),
+          coefficient-tabulate (b * a) (planePlace a g) k h,
+        )
+        (small (k / a) (k % a))
+    go (no h) = rw (getD-sets-other z 0 (plane a b g) k 0 (λ i c d. omega (arith, rw length-tabulate at c))) (old k)
+
+-- a packed list that was written
+module _ (m count : ℕ) (f : ℕ → ℕ → ℕ) (z : List ℕ) (room : count * m ≤ length z) where
+  written-at : (a b : ℕ) (g : ℕ → ℕ → ℕ) → b * a ≤ length z → (j i : ℕ) → j < b → i < a → coefficient (sets z 0 (plane a b g)) (j * a + i) ≡ g j i
+  unfolding coefficient
+  written-at a b g fits j i c d =
+      rw zero-add at (getD-sets-inside z 0 (plane a b g) (j * a + i) 0 (rw (length-plane a b g, zero-add) fits)
+      (rw (length-plane a b g) (omega (arith, mul-le-mul-right a c, suc-mul j a))))
+      ∙ coefficient-plane a b g j i c d
+
+  pub packed-at : (turned : Bool) (j i : ℕ) → j < count → i < m → packedAt turned m count (sets z 0 (packed turned m count f)) j i ≡ f j i
+  unfolding packedAt packed planes.turned
+  packed-at true j i b c = written-at count m (planes.turned f) (rw (mul-comm m count) room) i j c b
+  packed-at false j i b c = written-at m count f room j i b c
+
+  pub packed-below : (p : ℕ) → ((j i : ℕ) → f j i < p) → ((k : ℕ) → getD z k 0 < p) → (turned : Bool) (k : ℕ)
+      → getD (sets z 0 (packed turned m count f)) k 0 < p
+  unfolding packed planes.turned
+  packed-below p h old true k = rows-below p old k (planes.turned f) count m (rw (mul-comm m count) room) (λ i j. h j i)
+  packed-below p h old false k = rows-below p old k f m count room h
