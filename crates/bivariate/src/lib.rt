@@ -1,5 +1,5 @@
 // The steps of route 4 on polynomials in x and y, in rows of one lent buffer, row j for y^j: Q = 1 - y g, Q(-x, y), the even part, x^2 for x, and
-// a window of the powers of y. Each is written row by row, without a division. Products stand in `product`.
+// a window of the powers of y. Each is written row by row, so no place is divided by the length of a row. Products stand in `product`.
 use product::Rows;
 ghost use mathlib.Core.Path.{_≡_};
 ghost use Prim.Native.Nat.{_+_, _-_, _*_, _<_, _≤_};
