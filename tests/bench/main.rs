@@ -3,8 +3,9 @@
 //! run. The routes of the second implementation make the same products with a remainder after each
 //! term; reversion there goes coefficient by coefficient. FLINT has one composition, which stands
 //! beside each route, and asks for an inner series without constant term, so all are given one. An
-//! opening is little more than the test of the modulus. Printed are the shortest times and their
-//! ratios; below 1 the library is the quicker one. A picture of them goes to the file that is named.
+//! opening is little more than a look at the table of primes. Printed are the shortest times and
+//! their ratios; below 1 the library is the quicker one. A picture of them goes to the file that is
+//! named.
 
 #[allow(dead_code)]
 #[path = "../second/checks/mod.rs"]

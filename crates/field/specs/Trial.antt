@@ -6,10 +6,11 @@
 --   tried-room       while the square of d is at most p, so is three times d
 --   tried-divided    d divides p: p is not prime
 --   tried-prime      the square of d is above p: p is prime
---   even-prime       of the even numbers only 2 is prime
+--   undivided-by     a divisor of p has no divisor that p has not
+--   divided-prime    of the numbers that a prime q divides only q is prime
 -- Assumes nothing.
 use Prim.Native.Nat.{ℕ, _+_, _*_, _%_, _<_, _≤_}
-use borrow.Author.Tests.{ne-eqb}
+use borrow.Author.Tests.{eq-eqb, ne-eqb}
 use lib.Dec.{eqb}
 use mathlib.Core.Bool.{true, false}
 use mathlib.Core.Logic.{_≢_}
@@ -17,14 +18,16 @@ use mathlib.Core.Path.{_≡_, sym, _∙_}
 use native.Mathlib.Decide.{decLt, ℕ-discrete}
 use native.Mathlib.Nat.{
   dvd-of-mod-eq-zero,
+  le-of-dvd,
   le-trans,
   mod-mod-of-dvd,
   mul-le-mul,
   mul-le-mul-left,
+  zero-mod,
 }
 use native.Mathlib.Omega.{arith}
-use Rattle.algebra.specs.Prime.{isPrime-true, isPrime-false, not-prime, prime-by-trial}
-use Rattle.definition.specs.Prime.{isPrime, indivisible}
+use Rattle.algebra.specs.Prime.{isPrime-true, isPrime-false, not-prime, prime-by-trial, prime-of-test}
+use Rattle.definition.specs.Prime.{isPrime}
 
 pub record Tried (p d : ℕ) : Type 0 where
   pub above-one : 1 < p
@@ -43,9 +46,8 @@ tried-three p l odd =
       undivided = λ k low high. let two : k ≡ 2 = omega arith in rw two odd;
     }
 
--- an even number does not divide an odd one
-odd-even : (p k : ℕ) → p % 2 ≢ 0 → k % 2 ≡ 0 → p % k ≢ 0
-odd-even p k odd even e = odd (sym (mod-mod-of-dvd 2 p (dvd-of-mod-eq-zero 2 even)) ∙ rw e)
+pub undivided-by : (p k q : ℕ) → p % q ≢ 0 → p % k ≡ 0 → k % q ≢ 0
+undivided-by p k q here e divided = here (sym (mod-mod-of-dvd q p (dvd-of-mod-eq-zero q divided)) ∙ rw (e, zero-mod))
 
 module _ {p d : ℕ} (t : Tried p d) where
   pub tried-next : p % d ≢ 0 → Tried p (d + 2)
@@ -61,7 +63,7 @@ module _ {p d : ℕ} (t : Tried p d) where
       go : (k : ℕ) → 1 < k → k < d + 2 → Dec (k < d) → Dec (k ≡ d) → p % k ≢ 0
       go k low high (yes below) _ = t .undivided k low below
       go k low high (no above) (yes e) = rw e here
-      go k low high (no above) (no other) = odd-even p k (t .odd) (omega (arith, t .next-odd))
+      go k low high (no above) (no other) = λ e. undivided-by p k 2 (t .odd) e (omega (arith, t .next-odd))
 
   pub tried-room : d * d ≤ p → d * 3 ≤ p
   tried-room h = le-trans (mul-le-mul-left d (t .past-two)) h
@@ -78,11 +80,12 @@ module _ {p d : ℕ} (t : Tried p d) where
       small k square (no above) =
           let larger : d * d ≤ k * k = mul-le-mul (omega arith) (omega arith) in absurd (omega (arith, past))
 
-pub even-prime : (p : ℕ) → 1 < p → p % 2 ≡ 0 → eqb p 2 ≡ isPrime p
-unfolding isPrime indivisible
-even-prime p l even = go (decLt 2 p)
+pub divided-prime : (p q : ℕ) → isPrime q ≡ true → 1 < p → p % q ≡ 0 → eqb p q ≡ isPrime p
+divided-prime p q prime l divided = go (ℕ-discrete p q)
   where
-    go : Dec (2 < p) → eqb p 2 ≡ isPrime p
-    go (yes above) =
-        rw (ne-eqb p 2 (λ e. omega arith)) (sym (isPrime-false p (not-prime 2 (omega arith) above even)))
-    go (no small) = let two : p ≡ 2 = omega arith in rw two
+    go : Dec (p ≡ q) → eqb p q ≡ isPrime p
+    go (yes e) = eq-eqb p q e ∙ rw (e, prime)
+    go (no other) =
+        let most : q ≤ p = le-of-dvd (omega arith) (dvd-of-mod-eq-zero q divided) in
+        ne-eqb p q other
+        ∙ sym (isPrime-false p (not-prime q (prime-of-test q prime .above-one) (omega arith) divided))

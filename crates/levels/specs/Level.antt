@@ -58,7 +58,7 @@ module _ {p q d : ℕ} {f w : List ℕ} (lent : LevelLent p 0 1 q d f w) where
   abbrev m : ℕ
   m = length f
 
-  pub last-room : q + 1 + (m + m) ≤ length w
+  pub last-room : q + 1 + 4 * m ≤ length w
   unfolding levelPlaces
   last-room = omega (arith, lent .work)
 

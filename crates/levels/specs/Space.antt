@@ -15,7 +15,7 @@ use Rattle.definition.specs.Refusal.{composeWork, limit}
 use Rattle.definition.specs.Weight.{degreeBound, halvings}
 
 unfoldable pub levelPlaces : ℕ → ℕ → ℕ → ℕ → ℕ → ℕ
-levelPlaces zero m r q d = (q + 1) * r + (m + m)
+levelPlaces zero m r q d = (q + 1) * r + 4 * m
 levelPlaces (suc K) m r q d =
     (q + 1) * r + (m - d) * r + (q + 1) * r + (degreeBound m q + 1) * r
     + levelPlaces K m (ceilDiv r 2) (degreeBound m q) (d - q)
@@ -28,7 +28,7 @@ level-rows (suc K) m r q d h = omega arith
 -- c is 2 to the number of levels above
 module _ (n m : ℕ) (outer : 0 < m) where
   level-space : (K c r q d : ℕ) → c * r ≤ n + c → c * 2 ^ K ≤ 2 * n → q ≤ c → q < m → m ≤ d + c → r ≤ 2 ^ K
-      → levelPlaces K m r q d + 5 * c ≤ (5 * n + 3) * K + 10 * n + 6 * r + 3 * m
+      → levelPlaces K m r q d + 5 * c ≤ (5 * n + 3) * K + 10 * n + 6 * r + 5 * m
   unfolding levelPlaces degreeBound ceilDiv
   level-space zero c r q d rows levels degree bound window small =
       omega (arith, mul-le-mul-left (q + 1) small)

@@ -2,5 +2,7 @@
 --
 --   Products   squares, x and y exchanged, residues
 --   Parity     even and odd powers of x
+--   Rows       lists of rows
 pub mod Products
 pub mod Parity
+pub mod Rows

@@ -5,6 +5,7 @@
 --   table-written   they are the table of the definitions
 --   table-rule      the rule of the table
 --   table-only      a list that keeps the rule is this one
+--   member-prime    a number of the table is prime
 -- Assumes nothing.
 use Prim.Native.Nat.{ℕ, suc, _-_, _*_, _<_, _≤_}
 use lib.Dec.{lit≤}
@@ -13,8 +14,10 @@ use mathlib.Core.Bool.{true}
 use mathlib.Core.List.{List, [], _∷_}
 use mathlib.Core.Path.{_≡_, refl}
 use native.Mathlib.Omega.{arith}
+use Rattle.definition.specs.Prime.{Prime}
 use Rattle.definition.specs.PrimeTable.{TableRule, tableBound, primeTable}
 use Rattle.definition.specs.TableDetermined.{table-rule-determined}
+use Rattle.primes.specs.Member.{member, member-holds}
 use Rattle.primes.specs.Sieve.{Next, composites, oddTrial, quick, reach, sieved, sieved-below, sieved-next, trial}
 
 unfoldable pub table : List ℕ
@@ -71,3 +74,6 @@ table-rule = rw table-written written
 
 pub table-only : (t : List ℕ) → TableRule t → t ≡ table
 table-only t rule = table-rule-determined rule written
+
+pub member-prime : (p : ℕ) → member p primeTable ≡ true → Prime p
+member-prime = member-holds Prime primeTable (λ i l. table-rule .prime i (omega (arith, table-rule .sixteen)))

@@ -1,5 +1,8 @@
 // The sixteen largest primes below 2147483648.
+ghost use mathlib.Core.Path.{_≡_};
 ghost use Rattle.definition.specs.Calls.{Table};
+ghost use Rattle.definition.specs.PrimeTable.{primeTable};
+ghost use Rattle.primes.specs.Member.{member};
 
 // Largest first.
 const TABLE: [u32; 16] = [
@@ -43,4 +46,18 @@ pub fn prime(index: u32) -> Answer
             prime: 0,
         }
     }
+}
+
+// Whether `p` is an entry of the table.
+pub fn in_table(p: u32) -> bool
+    ensures { λ r. ⌜ r ≡ member p primeTable ⌝ }
+{
+    let mut i: usize = 0;
+    while i < 16 {
+        if TABLE[i] == p {
+            return true;
+        }
+        i += 1;
+    }
+    false
 }

@@ -4,21 +4,20 @@
 --   row-held              row l of it is a part of w
 --   held-beyond           rows past the last are zero
 --   held-kept             it is as it was after a write apart from it
---   plane-0 plane-suc     a list of rows grows by its last row
+--   plane-0 plane-suc     a list of rows grows by its last row (`planes/Rows`)
 -- Assumes nothing.
-use Prim.Native.Nat.{ℕ, zero, suc, _+_, _*_, _<_, _≤_}
-use native.Mathlib.Nat.{add-suc, add-zero, mul-le-mul-right, suc-mul, zero-mul}
+use Prim.Native.Nat.{ℕ, _+_, _*_, _<_, _≤_}
+use native.Mathlib.Nat.{mul-le-mul-right, suc-mul}
 use native.Mathlib.Omega.{arith}
 use mathlib.Core.Path.{_≡_, ap}
-use mathlib.Core.List.{List, [], _++_, append-assoc, append-nil}
-use lib.Arith.{digits-div, digits-mod}
+use mathlib.Core.List.{List}
 use lib.ListN.{length}
 use lib.Seq.{sets}
 use Rattle.algebra.specs.Rows.{planeAt-above, planeAt-row}
-use Rattle.algebra.specs.Lists.{tabulate-cong}
-use Rattle.definition.specs.KinoshitaLi.{planeAt, plane, planePlace}
-use Rattle.definition.specs.Lists.{tabulate, coefficient}
+use Rattle.definition.specs.KinoshitaLi.{planeAt}
+use Rattle.definition.specs.Lists.{coefficient}
 use Rattle.product.specs.declared.Rows.{Rows}
+pub use Rattle.planes.specs.Rows.{plane-0, plane-suc}
 use Rattle.buffer.specs.Segments.{segment, Apart, length-segment, segment-kept, segment-segment}
 
 abbrev pub held : ℕ → List ℕ → Rows → ℕ → ℕ → ℕ
@@ -38,19 +37,3 @@ module _ (r : ℕ) (w : List ℕ) (a : Rows) where
 
   pub held-kept : {t n : ℕ} → Apart w (a .at) (a .count * r) t n → (vs : List ℕ) → length vs ≤ n → held r (sets w t vs) a ≡ held r w a
   held-kept apart vs short = ap (planeAt r) (segment-kept apart vs short)
-
-tabulate-+ : (m n : ℕ) (f : ℕ → ℕ) → tabulate (m + n) f ≡ tabulate m f ++ tabulate n (λ k. f (m + k))
-unfolding tabulate
-tabulate-+ m zero f = rw (add-zero, append-nil)
-tabulate-+ m (suc n) f = rw (add-suc, tabulate-+ m n f, append-assoc)
-
-pub plane-0 : (r : ℕ) (a : ℕ → ℕ → ℕ) → plane r 0 a ≡ []
-unfolding plane tabulate
-plane-0 r a = rw zero-mul
-
-pub plane-suc : (r k : ℕ) (a : ℕ → ℕ → ℕ) → plane r (suc k) a ≡ plane r k a ++ tabulate r (a k)
-unfolding plane planePlace
-plane-suc r k a =
-    rw (suc-mul, tabulate-+ (k * r) r (planePlace r a))
-    (ap (λ l. tabulate (k * r) (planePlace r a) ++ l)
-    (tabulate-cong r (λ i. planePlace r a (k * r + i)) (a k) (λ i h. rw (digits-div k h, digits-mod k h))))

@@ -49,10 +49,13 @@ fn bad_route(route: u32) -> bool
     if route == 0 { true } else { route > 4 }
 }
 
-// Whether p is not prime or above the largest modulus.
+// Whether p is not prime or above the largest modulus. A prime of the table is known by a look at it.
 fn bad_modulus(p: u32) -> bool
     ensures { λ r. ⌜ r ≡ badModulus p ⌝ }
 {
+    if primes::in_table(p) {
+        return false;
+    }
     match Field::new(p) {
         Opened::Field(_) => false,
         Opened::Refused => true,

@@ -23,8 +23,8 @@ pub second-power : (m : ℕ) → (2 ^ 32 % m) * (2 ^ 32 % m) % m ≡ 2 ^ 64 % m
 second-power m = rw (mod-mul-mod, mul-mod-mod)
 
 module _ (m high : ℕ) (l : 0 < m) (h : m < 2 ^ 32) where
-  pub second-term : high < 2 ^ 40 → high / 2 ^ 32 * (2 ^ 64 % m) ≤ (2 ^ 8 - 1) * (2 ^ 32 - 1)
-  second-term b = mul-le-mul {n₂ = 2 ^ 8 - 1} {m₂ = 2 ^ 32 - 1} (omega arith) (omega (arith, mod-lt (2 ^ 64) l))
+  pub second-term : high < 2 ^ 46 → high / 2 ^ 32 * (2 ^ 64 % m) ≤ (2 ^ 14 - 1) * (2 ^ 32 - 1)
+  second-term b = mul-le-mul {n₂ = 2 ^ 14 - 1} {m₂ = 2 ^ 32 - 1} (omega arith) (omega (arith, mod-lt (2 ^ 64) l))
 
   pub first-term : high % 2 ^ 32 * (2 ^ 32 % m) ≤ (2 ^ 32 - 1) * 2 ^ 31
   first-term = mul-le-mul {n₂ = 2 ^ 32 - 1} {m₂ = 2 ^ 31} (omega arith) (first-small m l h)

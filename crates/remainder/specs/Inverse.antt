@@ -6,7 +6,7 @@
 --   inverse-small    the inverse has 32 bits
 --   product-small    and the product of such a number and it has 64
 --   below near       the estimated quotient is not too large, and not much too small
---   first-step       the first multiple of m that is taken off leaves a number below 2^44 with the same remainder
+--   first-step       the first multiple of m that is taken off leaves a number below 2^50 with the same remainder
 --   second-step      the second one leaves a number below 2 m
 -- Assumes nothing.
 use Prim.Native.Nat.{ℕ, _+_, _-_, _*_, _/_, _%_, _<_, _≤_, _^_}
@@ -83,19 +83,19 @@ module _ {m i : ℕ} (b : Between m) (inverse : i ≡ (2 ^ 62 - 1) / m) where
           small,
         )
 
-  pub first-step : {high sum x y r : ℕ} → high < 2 ^ 40 → lowPart sum high < 2 ^ 40 → sum < 2 ^ 64 → x ≡ high / 256 * i → y ≡ x / 2 ^ 34 * m
-      → r < 2 ^ 64 → (r + y % 2 ^ 52 * 4096) % 2 ^ 64 ≡ sum → (r < 2 ^ 44) × (r % m ≡ (2 ^ 32 * high + lowPart sum high) % m)
+  pub first-step : {high sum x y r : ℕ} → high < 2 ^ 46 → lowPart sum high < 2 ^ 46 → sum < 2 ^ 64 → x ≡ high / 16384 * i → y ≡ x / 2 ^ 34 * m
+      → r < 2 ^ 64 → (r + y % 2 ^ 46 * 262144) % 2 ^ 64 ≡ sum → (r < 2 ^ 50) × (r % m ≡ (2 ^ 32 * high + lowPart sum high) % m)
   first-step {high} {sum} {x} {y} {r} few low fits e f small w =
       (omega (arith, left, rest), rw (left, f, ← mul-assoc, add-mul-mod-self-right))
     where
-      rest : 2 ^ 32 * high + lowPart sum high < 4096 * y + 2 ^ 44
-      rest = omega (arith, near (high / 256) (2 ^ 34) e f (omega arith) (omega arith), b .most)
+      rest : 2 ^ 32 * high + lowPart sum high < 262144 * y + 2 ^ 50
+      rest = omega (arith, near (high / 16384) (2 ^ 34) e f (omega arith) (omega arith), b .most)
 
-      left : 2 ^ 32 * high + lowPart sum high ≡ r + 4096 * y
-      left = omega (arith, part-whole high fits, below (high / 256) (2 ^ 34) e f, rest)
+      left : 2 ^ 32 * high + lowPart sum high ≡ r + 262144 * y
+      left = omega (arith, part-whole high fits, below (high / 16384) (2 ^ 34) e f, rest)
 
-  pub second-step : {r x y : ℕ} → r < 2 ^ 44 → x ≡ r / 4096 * i → y ≡ x / 2 ^ 50 * m → (y ≤ r) × (r - y < m + m) × ((r - y) % m ≡ r % m)
+  pub second-step : {r x y : ℕ} → r < 2 ^ 50 → x ≡ r / 262144 * i → y ≡ x / 2 ^ 44 * m → (y ≤ r) × (r - y < m + m) × ((r - y) % m ≡ r % m)
   second-step {r} {x} {y} few e f =
-      let fits : y ≤ r = omega (arith, below (r / 4096) (2 ^ 50) e f) in
-      let left : r ≡ r - y + x / 2 ^ 50 * m = rw (← f) (omega arith) in
-      (fits, omega (arith, near (r / 4096) (2 ^ 50) e f (omega arith) (omega arith), b .above), sym (ap (λ t. t % m) left ∙ add-mul-mod-self-right (r - y) (x / 2 ^ 50) m))
+      let fits : y ≤ r = omega (arith, below (r / 262144) (2 ^ 44) e f) in
+      let left : r ≡ r - y + x / 2 ^ 44 * m = rw (← f) (omega arith) in
+      (fits, omega (arith, near (r / 262144) (2 ^ 44) e f (omega arith) (omega arith), b .above), sym (ap (λ t. t % m) left ∙ add-mul-mod-self-right (r - y) (x / 2 ^ 44) m))

@@ -3,7 +3,7 @@
 --   lowPart s h           what 2^32 h leaves of a number that is s modulo 2^64
 --   low-part              it is the difference that wraps
 --   part-whole            with 2^32 h it is s modulo 2^64
---   Small n sums high     n places whose parts are below 2^40
+--   Small n sums high     n places whose parts are below 2^46
 --   remainderList p n sums high   the remainders of the sums
 -- Assumes nothing.
 use Prim.Native.Nat.{ℕ, _+_, _-_, _*_, _%_, _<_, _≤_, _^_}
@@ -30,8 +30,8 @@ part-whole h b = omega arith
 pub record Small (n : ℕ) (sums high : List ℕ) : Type 0 where
   pub sums-room : n ≤ length sums
   pub high-room : n ≤ length high
-  pub low-below : (k : ℕ) → k < n → lowPart (getD sums k 0) (getD high k 0) < 2 ^ 40
-  pub high-below : (k : ℕ) → k < n → getD high k 0 < 2 ^ 40
+  pub low-below : (k : ℕ) → k < n → lowPart (getD sums k 0) (getD high k 0) < 2 ^ 46
+  pub high-below : (k : ℕ) → k < n → getD high k 0 < 2 ^ 46
 
 unfoldable pub remainderAt : ℕ → List ℕ → List ℕ → ℕ → ℕ
 remainderAt p sums high k = (2 ^ 32 * coefficient high k + lowPart (coefficient sums k) (coefficient high k)) % p

@@ -1,5 +1,5 @@
 // The remainders modulo p of sums that are kept in two parts: a sum modulo 2^64, and beside it a count of 2^32 that falls short of it by less than
-// 2^40 (`rows` makes such sums).
+// 2^46 (`rows` makes such sums).
 ghost use mathlib.Core.Path.{_≡_};
 ghost use Prim.Native.Nat.{_+_, _-_, _*_, _/_, _%_, _<_, _≤_, _^_};
 ghost use lib.ListN.{length};
@@ -9,7 +9,7 @@ ghost use Rattle.remainder.specs.Sums.{Small, lowPart, remainderList};
 
 // The remainder of 2^32 high + low modulo m by one division, where first is 2^32 and second is 2^64 modulo m.
 fn folded(m: u64, first: u64, second: u64, high: u64, low: u64) -> u32
-    requires { ⌜ (0 < m) × (m < 2 ^ 32) × (first ≡ 2 ^ 32 % m) × (second ≡ 2 ^ 64 % m) × (high < 2 ^ 40) × (low < 2 ^ 40) ⌝ }
+    requires { ⌜ (0 < m) × (m < 2 ^ 32) × (first ≡ 2 ^ 32 % m) × (second ≡ 2 ^ 64 % m) × (high < 2 ^ 46) × (low < 2 ^ 46) ⌝ }
     ensures { λ r. ⌜ r ≡ (2 ^ 32 * high + low) % m ⌝ }
 {
     ((high / 4294967296 * second + high % 4294967296 * first + low) % m) as u32
@@ -38,32 +38,32 @@ fn by_division(p: u32, n: usize, sums: &[u64], high: &[u64], z: &mut [u32])
     }
 }
 
-// A number below 2^44 with the remainder of the sum modulo m, where `inverse` is the quotient of 2^62 - 1 by m: a multiple of m is taken off that the
-// upper bits tell. The divisors are 2^8, 2^34 and 2^52.
-fn to_44_bits(m: u64, inverse: u64, sum: u64, high: u64) -> u64
-    requires { ⌜ Between m × (inverse ≡ (2 ^ 62 - 1) / m) × (high < 2 ^ 40) × (lowPart sum high < 2 ^ 40) ⌝ }
-    ensures { λ r. ⌜ (r < 2 ^ 44) × (r % m ≡ (2 ^ 32 * high + lowPart sum high) % m) ⌝ }
+// A number below 2^50 with the remainder of the sum modulo m, where `inverse` is the quotient of 2^62 - 1 by m: a multiple of m is taken off that the
+// upper bits tell. The divisors are 2^14, 2^34 and 2^46.
+fn to_50_bits(m: u64, inverse: u64, sum: u64, high: u64) -> u64
+    requires { ⌜ Between m × (inverse ≡ (2 ^ 62 - 1) / m) × (high < 2 ^ 46) × (lowPart sum high < 2 ^ 46) ⌝ }
+    ensures { λ r. ⌜ (r < 2 ^ 50) × (r % m ≡ (2 ^ 32 * high + lowPart sum high) % m) ⌝ }
 {
-    let q = residue::times(high / 256, inverse) / 17179869184;
-    std::num::wrapping_sub_u64(sum, residue::times(q, m) % 4503599627370496 * 4096)
+    let q = residue::times(high / 16384, inverse) / 17179869184;
+    std::num::wrapping_sub_u64(sum, residue::times(q, m) % 70368744177664 * 262144)
 }
 
-// The same of a number of 44 bits: what is left is below 2 m. The divisors are 2^12 and 2^50.
+// The same of a number of 50 bits: what is left is below 2 m. The divisors are 2^18 and 2^44.
 fn to_twice(m: u64, inverse: u64, r: u64) -> u64
-    requires { ⌜ Between m × (inverse ≡ (2 ^ 62 - 1) / m) × (r < 2 ^ 44) ⌝ }
+    requires { ⌜ Between m × (inverse ≡ (2 ^ 62 - 1) / m) × (r < 2 ^ 50) ⌝ }
     ensures { λ s. ⌜ (s < m + m) × (s % m ≡ r % m) ⌝ }
 {
-    let q = residue::times(r / 4096, inverse) / 1125899906842624;
+    let q = residue::times(r / 262144, inverse) / 17592186044416;
     r - residue::times(q, m)
 }
 
 // The remainder of a sum by multiplications.
 fn by_multiplication(p: u32, inverse: u64, sum: u64, high: u64) -> u32
-    requires { ⌜ Between p × (inverse ≡ (2 ^ 62 - 1) / p) × (high < 2 ^ 40) × (lowPart sum high < 2 ^ 40) ⌝ }
+    requires { ⌜ Between p × (inverse ≡ (2 ^ 62 - 1) / p) × (high < 2 ^ 46) × (lowPart sum high < 2 ^ 46) ⌝ }
     ensures { λ r. ⌜ r ≡ (2 ^ 32 * high + lowPart sum high) % p ⌝ }
 {
     let m = residue::wide(p);
-    let r = to_44_bits(m, inverse, sum, high);
+    let r = to_50_bits(m, inverse, sum, high);
     residue::difference(p, to_twice(m, inverse, r) as u32, p)
 }
 

@@ -1,39 +1,38 @@
 -- Rows of the multiplication by hand, added to the sums of the places, each kept in two parts.
 --
--- Row j is place j of x times y. The list y has seven zeros before its first place, so that every row of a pass reaches the same places: row j
--- adds x_j y_(k + 7 - j) to place k.
+-- Row j is place j of x times y. A pass adds neighbouring rows at neighbouring places.
 --
 --   Below b l                  the places of l are below b
 --   IsFour f x i               four places of a list, from i on
 --   FourBelow PlacesBelow      four such factors, and four places of the other list, below a bound
 --   four-below places-below    they are, where all places of the lists are
 --   nearer                     fewer places are left after one more
---   Factors b n x y            two such lists, their places below b, with room behind n places
---   factors-below              it holds of every larger bound
---   fourProducts f y e         four products, one place of y after the other downwards
---   four-rows eight-rows       what four and what eight rows add to a place
+--   Factors b m from to x i y e sums high   what a pass requires: factors below b, with room for m rows
+--   rowTerm rowsSum m x i y e  what m rows add to a place
+--   four-rows eight-rows       four and eight products are that
+--   sum-+                      a sum in two parts
 --   IsTotal m number t         a number in two parts, of which one wraps
 --   total-four                 four products in such parts
---   Kept f i s h               the sum of the first i terms, kept in two such parts
---   kept-none kept-same kept-more   of no term, after terms that are 0, and after more terms
---   Summed i n x y sums high   the places below n hold the sums of the rows before i
---   summed-more rows-above     rows above a place add nothing to it
---   Pass m i k n x y sums high rows i to i + m - 1 are added at the places below k, and not yet at those from k on
---   pass-first pass-next pass-last   before the first place, after one more, and after the last
---   pass-fits                  the counts stay small
+--   Kept v c s h               a number in two such parts, one too small by little
+--   kept-none kept-wider kept-double   0, with a larger bound, and doubled
+--   More m number s h s′ h′    kept, and with another number added kept again
+--   more-total                 so it is after such parts are added
+--   more-more more-none more-wider   added twice, nothing added, and with a larger bound
+--   Passed                     the contract of a pass
+--   passed-none passed-next    before the first place, and after one more
+--   factors-eight factors-four passed-eight   eight rows at once where the factors are below 2^31, or four and four
 -- Assumes nothing.
-use Prim.Native.Nat.{ℕ, suc, _+_, _-_, _*_, _/_, _%_, _<_, _≤_, _^_}
+use Prim.Native.Nat.{ℕ, zero, suc, _+_, _-_, _*_, _/_, _%_, _<_, _≤_, _^_}
 use native.Mathlib.Decide.{decLt}
-use native.Mathlib.Nat.{add-assoc, add-mod, add-mul, le-refl, mul-le-mul, mul-zero}
+use native.Mathlib.Nat.{add-assoc, add-mod, add-mul, add-suc, add-zero, le-refl, mod-eq-of-lt, mul-le-mul-right}
 use native.Mathlib.Omega.{arith}
-use mathlib.Core.Path.{_≡_, _∙_}
+use mathlib.Core.Path.{_≡_, refl, sym, ap₂, _∙_}
 use mathlib.Core.Logic.{_≢_}
 use mathlib.Core.List.{List}
-use lib.ListN.{length, getD, set, length-set}
+use lib.ListN.{length, getD, set}
 use lib.Seq.{getD-set-same, getD-set-other}
-use Rattle.algebra.specs.Lists.{sum-beyond}
-use Rattle.definition.specs.Lists.{sum, coefficient}
-use Rattle.definition.specs.Substitution.{productTerm}
+use Rattle.algebra.specs.Lists.{sum-cong}
+use Rattle.definition.specs.Lists.{sum}
 use Rattle.rows.specs.declared.Four.{Four}
 use Rattle.rows.specs.declared.Total.{Total}
 
@@ -109,27 +108,21 @@ total-four {a} {b} {c} {d} f g h k w u = record {
   few = rw u (four-small (high-half f) (high-half g) (high-half h) (high-half k));
 }
 
-pub record Factors (b n : ℕ) (x y : List ℕ) : Type 0 where
-  pub order : n ≤ 128
-  pub left : n + 8 ≤ length x
-  pub right : n + 8 ≤ length y
+pub record Factors (b m from to : ℕ) (x : List ℕ) (i : ℕ) (y : List ℕ) (e : ℕ) (sums high : List ℕ) : Type 0 where
+  pub ordered : from ≤ to
+  pub left : i + m ≤ length x
+  pub right : e + (to - from) + m ≤ length y
   pub left-below : Below b x
   pub right-below : Below b y
-  pub zeros : (j : ℕ) → j < 7 → getD y j 0 ≡ 0
+  pub sums-room : to ≤ length sums
+  pub high-room : to ≤ length high
 
-pub factors-below : {b c n : ℕ} {x y : List ℕ} → b ≤ c → Factors b n x y → Factors c n x y
-factors-below h f = record {
-  order = f .order;
-  left = f .left;
-  right = f .right;
-  left-below = record { place = λ j. omega (arith, f .left-below .place j) };
-  right-below = record { place = λ j. omega (arith, f .right-below .place j) };
-  zeros = f .zeros;
-}
+-- what m rows add to a place, one place of y after the other downwards, to place e
+abbrev pub rowTerm : ℕ → List ℕ → ℕ → List ℕ → ℕ → ℕ → ℕ
+rowTerm m x i y e k = getD x (i + k) 0 * getD y (e + (m - 1 - k)) 0
 
--- what row j adds to place k
-abbrev pub term : List ℕ → List ℕ → ℕ → ℕ → ℕ
-term x y k = productTerm (coefficient x) (coefficient y) (k + 7)
+abbrev pub rowsSum : ℕ → List ℕ → ℕ → List ℕ → ℕ → ℕ
+rowsSum m x i y e = sum m (rowTerm m x i y e)
 
 four : (i : ℕ) (f : ℕ → ℕ) → sum (i + 4) f ≡ sum i f + (f i + f (i + 1) + f (i + 2) + f (i + 3))
 unfolding sum
@@ -140,119 +133,180 @@ four i f =
     let d : i + 1 ≡ suc i = omega arith in
     rw a (rw b (rw c (rw d (omega arith))))
 
-pub four-rows : {f : Four} (x y : List ℕ) (i k e : ℕ) → IsFour f x i → i + e ≡ k + 4
-    → sum (i + 4) (term x y k) ≡ sum i (term x y k) + fourProducts f y e
-unfolding productTerm coefficient
-four-rows x y i k e is h =
-    let a : k + 7 - i ≡ e + 3 = omega arith in
-    let b : k + 7 - (i + 1) ≡ e + 2 = omega arith in
-    let c : k + 7 - (i + 2) ≡ e + 1 = omega arith in
-    let d : k + 7 - (i + 3) ≡ e = omega arith in
-    rw (four i (term x y k), a, b, c, d, is .first, is .second, is .third, is .fourth)
+module _ (x y : List ℕ) (i e : ℕ) where
+  term-at : (m k : ℕ) {a b : ℕ} → i + k ≡ a → e + (m - 1 - k) ≡ b → rowTerm m x i y e k ≡ getD x a 0 * getD y b 0
+  term-at m k f g = rw (f, g)
 
-pub eight-rows : {f g : Four} (x y : List ℕ) (i k e : ℕ) → IsFour f x i → IsFour g x (i + 4) → i + e ≡ k
-    → sum (i + 8) (term x y k) ≡ sum i (term x y k) + (fourProducts f y (e + 4) + fourProducts g y e)
-eight-rows x y i k e is js h =
-    let a : i + 8 ≡ i + 4 + 4 = omega arith in
-    rw a (four-rows x y (i + 4) k e js (omega arith) ∙ rw (four-rows x y i k (e + 4) is (omega arith)) (add-assoc _ _ _))
+  pub four-rows : {f : Four} → IsFour f x i → fourProducts f y e ≡ rowsSum 4 x i y e
+  unfolding sum
+  four-rows {f} is = rw (is .first, is .second, is .third, is .fourth) (sym whole)
+    where
+      whole : rowsSum 4 x i y e ≡ getD x i 0 * getD y (e + 3) 0 + getD x (i + 1) 0 * getD y (e + 2) 0 + getD x (i + 2) 0 * getD y (e + 1) 0
+          + getD x (i + 3) 0 * getD y e 0
+      whole =
+          four 0 (rowTerm 4 x i y e)
+          ∙ omega (
+            arith,
+            term-at 4 0 {a = i} {b = e + 3} (omega arith) (omega arith),
+            term-at 4 1 {b = e + 2} refl (omega arith),
+            term-at 4 2 {b = e + 1} refl (omega arith),
+            term-at 4 3 {b = e} refl (omega arith),
+          )
 
--- the sum of the first i terms, kept as such a number
-pub record Kept (f : ℕ → ℕ) (i s h : ℕ) : Type 0 where
-  pub wraps : s ≡ sum i f % 2 ^ 64
-  pub lower : 2 ^ 32 * h ≤ sum i f
-  pub upper : sum i f ≤ 2 ^ 32 * h + i * (2 ^ 32 - 1)
-  pub few : h ≤ i * (2 ^ 32 - 1)
+  pub eight-rows : {f g : Four} → IsFour f x i → IsFour g x (i + 4) → fourProducts f y (e + 4) + fourProducts g y e ≡ rowsSum 8 x i y e
+  unfolding sum
+  eight-rows {f} {g} is js =
+      rw (is .first, is .second, is .third, is .fourth, js .first, js .second, js .third, js .fourth)
+      (sym (four 4 (rowTerm 8 x i y e) ∙ omega (
+        arith,
+        four 0 (rowTerm 8 x i y e),
+        term-at 8 0 {a = i} {b = e + 4 + 3} (omega arith) (omega arith),
+        term-at 8 1 {b = e + 4 + 2} refl (omega arith),
+        term-at 8 2 {b = e + 4 + 1} refl (omega arith),
+        term-at 8 3 {b = e + 4} refl (omega arith),
+        term-at 8 4 {b = e + 3} refl (omega arith),
+        term-at 8 5 {a = i + 4 + 1} {b = e + 2} (omega arith) (omega arith),
+        term-at 8 6 {a = i + 4 + 2} {b = e + 1} (omega arith) (omega arith),
+        term-at 8 7 {a = i + 4 + 3} {b = e} (omega arith) (omega arith),
+      )))
 
-pub kept-none : (f : ℕ → ℕ) → Kept f 0 0 0
+pub sum-+ : (m n : ℕ) (f : ℕ → ℕ) → sum (m + n) f ≡ sum m f + sum n (λ k. f (m + k))
 unfolding sum
-kept-none f = record { wraps = omega arith; lower = omega arith; upper = omega arith; few = omega arith }
+sum-+ m zero f = rw (add-zero, add-zero)
+sum-+ m (suc n) f = rw (add-suc, sum-+ m n f) (add-assoc _ _ _)
 
-module _ {f : ℕ → ℕ} {i s h : ℕ} (k : Kept f i s h) (m : ℕ) where
-  share : (i + m) * (2 ^ 32 - 1) ≡ i * (2 ^ 32 - 1) + m * (2 ^ 32 - 1)
-  share = add-mul i m (2 ^ 32 - 1)
+-- eight rows are four and four
+eight-of-four : (x y : List ℕ) (i e : ℕ) → rowsSum 8 x i y e ≡ rowsSum 4 x i y (e + 4) + rowsSum 4 x (i + 4) y e
+eight-of-four x y i e =
+    sum-+ 4 4 (rowTerm 8 x i y e)
+    ∙ ap₂ _+_ (sum-cong 4 _ (rowTerm 4 x i y (e + 4)) (λ k h. term-at x y i e 8 k refl (omega arith)))
+    (sum-cong 4 _ (rowTerm 4 x (i + 4) y e) (λ k h. term-at x y i e 8 (4 + k) (omega arith) (omega arith)))
 
-  pub kept-same : sum (i + m) f ≡ sum i f → Kept f (i + m) s h
-  kept-same e = record {
-    wraps = rw e (k .wraps);
-    lower = rw e (k .lower);
-    upper = omega (arith, share, k .upper);
-    few = omega (arith, share, k .few);
-  }
+-- a number v, kept as its remainder modulo 2^64 and a count of 2^32 that falls short of it by at most c times 2^32 - 1
+pub record Kept (v c s h : ℕ) : Type 0 where
+  pub wraps : s ≡ v % 2 ^ 64
+  pub lower : 2 ^ 32 * h ≤ v
+  pub upper : v ≤ 2 ^ 32 * h + c * (2 ^ 32 - 1)
+  pub few : h ≤ c * (2 ^ 32 - 1)
 
-  pub kept-more : {number : ℕ} {t : Total} → IsTotal m number t → sum (i + m) f ≡ sum i f + number
-      → Kept f (i + m) ((s + t .wrapped) % 2 ^ 64) (h + t .high)
-  kept-more t e = record {
-    wraps = rw (k .wraps, t .wraps, e, ← add-mod);
-    lower = omega (arith, k .lower, t .lower);
-    upper = omega (arith, share, k .upper, t .upper);
-    few = omega (arith, share, k .few, t .few);
-  }
+pub kept-none : Kept 0 0 0 0
+kept-none = record { wraps = omega arith; lower = omega arith; upper = omega arith; few = omega arith }
 
-pub record Summed (i n : ℕ) (x y sums high : List ℕ) : Type 0 where
-  pub sums-room : n ≤ length sums
-  pub high-room : n ≤ length high
-  pub place : (k : ℕ) → k < n → Kept (term x y k) i (getD sums k 0) (getD high k 0)
+pub kept-wider : {v c d s h : ℕ} → c ≤ d → Kept v c s h → Kept v d s h
+kept-wider {c = c} {d} b k =
+    let more : c * (2 ^ 32 - 1) ≤ d * (2 ^ 32 - 1) = mul-le-mul-right (2 ^ 32 - 1) b in
+    record { wraps = k .wraps; lower = k .lower; upper = omega (arith, more, k .upper); few = omega (arith, more, k .few) }
 
-pub record Pass (m i k n : ℕ) (x y sums high : List ℕ) : Type 0 where
-  pub sums-room : n ≤ length sums
-  pub high-room : n ≤ length high
-  pub done : (j : ℕ) → j < k → j < n → Kept (term x y j) (i + m) (getD sums j 0) (getD high j 0)
-  pub due : (j : ℕ) → k ≤ j → j < n → Kept (term x y j) i (getD sums j 0) (getD high j 0)
+pub kept-double : {v c s h : ℕ} → c + c ≤ 2 ^ 31 → Kept v c s h → Kept (v + v) (c + c) ((s + s) % 2 ^ 64) ((h + h) % 2 ^ 64)
+kept-double {v} {c} {s} {h} b k = record {
+  wraps = rw (k .wraps, ← add-mod);
+  lower = rw fits (omega (arith, k .lower));
+  upper = rw fits (omega (arith, k .upper, add-mul c c (2 ^ 32 - 1)));
+  few = rw fits (omega (arith, k .few, add-mul c c (2 ^ 32 - 1)));
+}
+  where
+    fits : (h + h) % 2 ^ 64 ≡ h + h
+    fits = mod-eq-of-lt (omega (arith, k .few, add-mul c c (2 ^ 32 - 1), mul-le-mul-right (2 ^ 32 - 1) b))
 
-module _ {b n : ℕ} {x y : List ℕ} (f : Factors b n x y) where
-  -- a row above a place adds nothing to it
-  above : (k j : ℕ) → k < j → term x y k j ≡ 0
-  unfolding productTerm coefficient
-  above k j h = rw (f .zeros (k + 7 - j) (omega arith), mul-zero)
+-- a number that is kept, and is kept when another is added
+pub record More (m number s h s′ h′ : ℕ) : Type 0 where
+  pub kept : {v c : ℕ} → c + m ≤ 2 ^ 31 → Kept v c s h → Kept (v + number) (c + m) s′ h′
 
-  pub rows-above : (k i j : ℕ) → k < i → i ≤ j → sum j (term x y k) ≡ sum i (term x y k)
-  rows-above k i j h g = sum-beyond i j (term x y k) g (λ t a u. above k t (omega arith))
+pub more-total : {m number : ℕ} {t : Total} → IsTotal m number t → {s h s′ h′ : ℕ}
+    → s′ ≡ (s + t .wrapped) % 2 ^ 64 → h′ ≡ (h + t .high) % 2 ^ 64 → More m number s h s′ h′
+more-total {m} {number} {t} total {s} {h} {s′} {h′} es eh = record { kept = λ {v} {c} b k. at v c b k }
+  where
+    at : (v c : ℕ) → c + m ≤ 2 ^ 31 → Kept v c s h → Kept (v + number) (c + m) s′ h′
+    at v c b k =
+        let share : (c + m) * (2 ^ 32 - 1) ≡ c * (2 ^ 32 - 1) + m * (2 ^ 32 - 1) = add-mul c m (2 ^ 32 - 1) in
+        let fits : (h + t .high) % 2 ^ 64 ≡ h + t .high =
+            mod-eq-of-lt (omega (arith, share, k .few, total .few, mul-le-mul-right (2 ^ 32 - 1) b)) in
+        rw (es, eh, fits) record {
+          wraps = rw (k .wraps, total .wraps, ← add-mod);
+          lower = omega (arith, k .lower, total .lower);
+          upper = omega (arith, share, k .upper, total .upper);
+          few = omega (arith, share, k .few, total .few);
+        }
 
-  pub pass-first : {i : ℕ} {sums high : List ℕ} (m : ℕ) → Summed i n x y sums high → Pass m i i n x y sums high
-  pass-first {i} m s = record {
-    sums-room = s .sums-room;
-    high-room = s .high-room;
-    done = λ j h l. kept-same (s .place j l) m (rows-above j i (i + m) h (omega arith));
-    due = λ j h l. s .place j l;
-  }
+-- more and still more
+pub more-more : {m k a b s h s′ h′ s″ h″ : ℕ} → More m a s h s′ h′ → More k b s′ h′ s″ h″ → More (m + k) (a + b) s h s″ h″
+more-more {m} {k} {a} {b} f g = record {
+  kept = λ {v} {c} small kept. rw (← add-assoc, ← add-assoc c) (g .kept (omega arith) (f .kept (omega arith) kept));
+}
 
-  pub summed-more : {i : ℕ} {sums high : List ℕ} → n ≤ i → (j : ℕ) → i ≤ j → Summed i n x y sums high → Summed j n x y sums high
-  summed-more {i} all j h s = record {
-    sums-room = s .sums-room;
-    high-room = s .high-room;
-    place = λ k b.
-        let e : j ≡ i + (j - i) = omega arith in
-        rw e (kept-same (s .place k b) (j - i) (rows-above k i (i + (j - i)) (omega arith) (omega arith)));
-  }
+-- nothing
+pub more-none : {m a s h s′ h′ : ℕ} → a ≡ 0 → s′ ≡ s → h′ ≡ h → More m a s h s′ h′
+more-none {m} {a} none e f = record { kept = λ {v} {c} small kept. rw (none, e, f, add-zero) (kept-wider (omega arith) kept) }
 
-module _ {m i k n : ℕ} {x y sums high : List ℕ} where
-  pub pass-last : Pass m i k n x y sums high → n ≤ k → Summed (i + m) n x y sums high
-  pass-last s h = record { sums-room = s .sums-room; high-room = s .high-room; place = λ j l. s .done j (omega arith) l }
+pub more-wider : {m k a s h s′ h′ : ℕ} → m ≤ k → More m a s h s′ h′ → More k a s h s′ h′
+more-wider b f = record { kept = λ {v} {c} small kept. kept-wider (omega arith) (f .kept (omega arith) kept) }
 
-  pub pass-fits : Pass m i k n x y sums high → k < n → i ≤ 2 ^ 30 → m ≤ 8 → {number : ℕ} {t : Total} → IsTotal m number t
-      → getD high k 0 + t .high < 2 ^ 64
-  pass-fits s h b few t =
-      let small : m * (2 ^ 32 - 1) ≤ 8 * (2 ^ 32 - 1) = mul-le-mul few (le-refl (2 ^ 32 - 1)) in
-      omega (arith, s .due k (omega arith) h .few, t .few)
+-- rows are added at the places from `from` on and below `to`, and the others are as they were
+pub record Passed (m from to : ℕ) (x : List ℕ) (i : ℕ) (y : List ℕ) (e : ℕ) (sums sums′ high high′ : List ℕ) : Type 0 where
+  pub inside : (t : ℕ) → from ≤ t → t < to
+      → More m (rowsSum m x i y (e + (t - from))) (getD sums t 0) (getD high t 0) (getD sums′ t 0) (getD high′ t 0)
+  pub before : (t : ℕ) → t < from → (getD sums′ t 0 ≡ getD sums t 0) × (getD high′ t 0 ≡ getD high t 0)
+  pub behind : (t : ℕ) → to ≤ t → (getD sums′ t 0 ≡ getD sums t 0) × (getD high′ t 0 ≡ getD high t 0)
 
-  pub pass-next : Pass m i k n x y sums high → k < n → {number : ℕ} {t : Total} → IsTotal m number t
-      → sum (i + m) (term x y k) ≡ sum i (term x y k) + number
-      → {v : ℕ} → v ≡ (getD sums k 0 + t .wrapped) % 2 ^ 64
-      → Pass m i (k + 1) n x y (set sums k v) (set high k (getD high k 0 + t .high))
-  pass-next s inside {number} {t} total e {v} w = record {
-    sums-room = rw length-set (s .sums-room);
-    high-room = rw length-set (s .high-room);
-    done = λ j b c. at j c (decLt j k) b;
-    due = λ j b c. rw (other sums _ j (λ d. omega arith), other high _ j (λ d. omega arith)) (s .due j (omega arith) c);
+module _ {m from : ℕ} {x : List ℕ} {i : ℕ} {y : List ℕ} {e : ℕ} {sums high : List ℕ} where
+  pub passed-none : Passed m from from x i y e sums sums high high
+  passed-none = record { inside = λ t b c. absurd (omega arith); before = λ t b. (refl, refl); behind = λ t b. (refl, refl) }
+
+  pub passed-next : {k : ℕ} {sums′ high′ : List ℕ} → from ≤ k → k < length sums′ → k < length high′
+      → Passed m from k x i y e sums sums′ high high′ → {t : Total} → IsTotal m (rowsSum m x i y (e + (k - from))) t
+      → {v u : ℕ} → v ≡ (getD sums′ k 0 + t .wrapped) % 2 ^ 64 → u ≡ (getD high′ k 0 + t .high) % 2 ^ 64
+      → Passed m from (k + 1) x i y e sums (set sums′ k v) high (set high′ k u)
+  passed-next {k} {sums′} {high′} low in-sums in-high passed {t} total {v} {u} ev eu = record {
+    inside = λ j b c. at j b c (decLt j k);
+    before = λ j b. (other sums′ v j (λ d. omega arith) ∙ passed .before j b .0, other high′ u j (λ d. omega arith) ∙ passed .before j b .1);
+    behind = λ j b. (
+      other sums′ v j (λ d. omega arith) ∙ passed .behind j (omega arith) .0,
+      other high′ u j (λ d. omega arith) ∙ passed .behind j (omega arith) .1,
+    );
   }
     where
       other : (l : List ℕ) (a j : ℕ) → j ≢ k → getD (set l k a) j 0 ≡ getD l j 0
       other l a j d = getD-set-other l k j a 0 d
 
-      at : (j : ℕ) → j < n → Dec (j < k) → j < k + 1
-          → Kept (term x y j) (i + m) (getD (set sums k v) j 0) (getD (set high k (getD high k 0 + t .high)) j 0)
-      at j c (yes b) h = rw (other sums _ j (λ d. omega arith), other high _ j (λ d. omega arith)) (s .done j b c)
-      at j c (no b) h =
+      at : (j : ℕ) → from ≤ j → j < k + 1 → Dec (j < k)
+          → More m (rowsSum m x i y (e + (j - from))) (getD sums j 0) (getD high j 0) (getD (set sums′ k v) j 0) (getD (set high′ k u) j 0)
+      at j b c (yes d) = rw (other sums′ v j (λ z. omega arith), other high′ u j (λ z. omega arith)) (passed .inside j b d)
+      at j b c (no d) =
           let same : j ≡ k = omega arith in
-          rw (same, getD-set-same sums k _ 0 (omega (arith, s .sums-room)), getD-set-same high k _ 0 (omega (arith, s .high-room)), w)
-          (kept-more (s .due k (omega arith) inside) m total e)
+          rw (same, getD-set-same sums′ k v 0 in-sums, getD-set-same high′ k u 0 in-high)
+          (more-total total (rw (passed .behind k (le-refl k) .0) at ev) (rw (passed .behind k (le-refl k) .1) at eu))
+
+module _ {p from to : ℕ} {x : List ℕ} {i : ℕ} {y : List ℕ} {e : ℕ} {sums high : List ℕ} (f : Factors p 8 from to x i y e sums high) where
+  pub factors-eight : p ≤ 2 ^ 31 → Factors (2 ^ 31) 8 from to x i y e sums high
+  factors-eight b = record {
+    ordered = f .ordered;
+    left = f .left;
+    right = f .right;
+    left-below = record { place = λ j. omega (arith, f .left-below .place j) };
+    right-below = record { place = λ j. omega (arith, f .right-below .place j) };
+    sums-room = f .sums-room;
+    high-room = f .high-room;
+  }
+
+  -- four of eight rows
+  pub factors-four : p ≤ 2 ^ 32 → {j d : ℕ} → j ≤ i + 4 → d ≤ e + 4 → {s h : List ℕ} → length s ≡ length sums → length h ≡ length high
+      → Factors (2 ^ 32) 4 from to x j y d s h
+  factors-four b g k es eh = record {
+    ordered = f .ordered;
+    left = omega (arith, f .left);
+    right = omega (arith, f .right);
+    left-below = record { place = λ j. omega (arith, f .left-below .place j) };
+    right-below = record { place = λ j. omega (arith, f .right-below .place j) };
+    sums-room = rw es (f .sums-room);
+    high-room = rw eh (f .high-room);
+  }
+
+pub passed-eight : {from to : ℕ} {x : List ℕ} {i : ℕ} {y : List ℕ} {e : ℕ} {s s′ s″ h h′ h″ : List ℕ}
+    → Passed 4 from to x i y (e + 4) s s′ h h′ → Passed 4 from to x (i + 4) y e s′ s″ h′ h″ → Passed 8 from to x i y e s s″ h h″
+passed-eight {from} {to} {x} {i} {y} {e} f g = record {
+  inside = λ t b c.
+      let same : e + 4 + (t - from) ≡ e + (t - from) + 4 = omega arith in
+      rw (eight-of-four x y i (e + (t - from)), ← same) (more-more (f .inside t b c) (g .inside t b c));
+  before = λ t b. (g .before t b .0 ∙ f .before t b .0, g .before t b .1 ∙ f .before t b .1);
+  behind = λ t b. (g .behind t b .0 ∙ f .behind t b .0, g .behind t b .1 ∙ f .behind t b .1);
+}

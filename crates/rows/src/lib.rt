@@ -1,9 +1,9 @@
 // Rows of the multiplication by hand: row j is place j of one factor times the other factor. Some rows are added in one pass over the places.
 // The sum of a place is exact: it is kept modulo 2^64, and beside it the sum of the high halves of what was added.
 ghost use mathlib.Core.Path.{_≡_};
-ghost use Prim.Native.Nat.{_+_, _<_, _^_};
-ghost use lib.ListN.{length};
-ghost use Rattle.rows.specs.Rows.{Factors, FourBelow, IsFour, IsTotal, PlacesBelow, Summed, fourProducts};
+ghost use Prim.Native.Nat.{_+_, _%_, _<_, _^_};
+ghost use lib.ListN.{getD, length, set};
+ghost use Rattle.rows.specs.Rows.{Factors, FourBelow, IsFour, IsTotal, Passed, PlacesBelow, fourProducts};
 
 // Four neighbouring places of a list.
 struct Four {
@@ -74,33 +74,60 @@ fn four_products(f: Four, y: &[u64], e: usize) -> Total
     }
 }
 
-// Adds rows i to i + 7, where the factors are below 2^31.
-pub fn add_eight_rows(i: usize, n: usize, x: &[u64], y: &[u64], sums: &mut [u64], high: &mut [u64])
-    requires { ⌜ Factors (2 ^ 31) n (now x) (now y) × (i < n) × Summed i n (now x) (now y) (now sums) (now high) ⌝ }
-    ensures { λ r. ⌜ Summed (i + 8) n (now (x .entry)) (now (y .entry)) (now (sums .exit)) (now (high .exit)) ⌝ }
+// Adds v to place t modulo 2^64.
+pub fn add_to(l: &mut [u64], t: usize, v: u64)
+    requires { ⌜ t < length (now l) ⌝ }
+    ensures { λ r. ⌜ now (l .exit) ≡ set (now (l .entry)) t ((getD (now (l .entry)) t 0 + v) % 2 ^ 64) ⌝ }
+{
+    l[t] = std::num::wrapping_add_u64(l[t], v);
+}
+
+// Adds eight rows at the places from `from` on and below `to`, where the factors are below 2^31: the places of x from i on, each times y. What place `from` is
+// added ends at place e of y.
+pub fn add_eight_rows(
+    from: usize,
+    to: usize,
+    x: &[u64],
+    i: usize,
+    y: &[u64],
+    e: usize,
+    sums: &mut [u64],
+    high: &mut [u64],
+)
+    requires { ⌜ Factors (2 ^ 31) 8 from to (now x) i (now y) e (now sums) (now high) ⌝ }
+    ensures { λ r. ⌜ Passed 8 from to (now (x .entry)) i (now (y .entry)) e (now (sums .entry)) (now (sums .exit)) (now (high .entry)) (now (high .exit)) ⌝ }
 {
     let f = places(x, i);
     let g = places(x, i + 4);
-    let mut t = i;
-    while t < n {
-        let s = eight_products(f, g, y, t - i);
-        sums[t] = std::num::wrapping_add_u64(sums[t], s.wrapped);
-        high[t] += s.high;
+    let mut t = from;
+    while t < to {
+        let s = eight_products(f, g, y, e + (t - from));
+        add_to(sums, t, s.wrapped);
+        add_to(high, t, s.high);
         t += 1;
     }
 }
 
-// Adds rows i to i + 3.
-pub fn add_four_rows(i: usize, n: usize, x: &[u64], y: &[u64], sums: &mut [u64], high: &mut [u64])
-    requires { ⌜ Factors (2 ^ 32) n (now x) (now y) × (i < n + 4) × Summed i n (now x) (now y) (now sums) (now high) ⌝ }
-    ensures { λ r. ⌜ Summed (i + 4) n (now (x .entry)) (now (y .entry)) (now (sums .exit)) (now (high .exit)) ⌝ }
+// Adds four rows in the same way, whatever the factors.
+pub fn add_four_rows(
+    from: usize,
+    to: usize,
+    x: &[u64],
+    i: usize,
+    y: &[u64],
+    e: usize,
+    sums: &mut [u64],
+    high: &mut [u64],
+)
+    requires { ⌜ Factors (2 ^ 32) 4 from to (now x) i (now y) e (now sums) (now high) ⌝ }
+    ensures { λ r. ⌜ Passed 4 from to (now (x .entry)) i (now (y .entry)) e (now (sums .entry)) (now (sums .exit)) (now (high .entry)) (now (high .exit)) ⌝ }
 {
     let f = places(x, i);
-    let mut t = i;
-    while t < n {
-        let s = four_products(f, y, t - i + 4);
-        sums[t] = std::num::wrapping_add_u64(sums[t], s.wrapped);
-        high[t] += s.high;
+    let mut t = from;
+    while t < to {
+        let s = four_products(f, y, e + (t - from));
+        add_to(sums, t, s.wrapped);
+        add_to(high, t, s.high);
         t += 1;
     }
 }

@@ -3,11 +3,10 @@
 --   residueList p n x     the first n places of x modulo p, residueAt at each place
 --   length-residueList residue-below   they are n residues
 --   product-residues      a product of two lists modulo p is that of their residues
---   kept-sum kept-small kept-few   what is kept of a sum of few terms determines it, and its parts are small
 --   Zeros c zs            zeros, as a local list is made (zeros-replicate)
---   factors               lists read into zeros are factors of a product by rows
---   product-by-rows       the remainders of the sums of all rows are the product
---   summed-none summed-small   no row is added yet; all are
+--   read-padded read-below read-values   a list read into zeros
+--   cut-pair              two of them are factors of a product by rows
+--   cut-small cut-remainders   and the remainders of its sums are the product
 -- Assumes nothing.
 use Prim.Native.Nat.{ℕ, suc, _+_, _-_, _*_, _%_, _<_, _≤_, _^_}
 use native.Mathlib.Decide.{decLt}
@@ -21,11 +20,14 @@ use Rattle.algebra.specs.Agree.{agree-⊠}
 use Rattle.algebra.specs.Bridge.{listed-agree, reduced-listed, series-listed, series-of, cutProduct-listed}
 use Rattle.algebra.specs.Lists.{coefficient-tabulate, length-tabulate, sum-cong, tabulate-cong}
 use Rattle.algebra.specs.Residue.{residues}
-use Rattle.buffer.specs.Written.{getD-sets-inside, getD-sets-other}
+use Rattle.buffer.specs.Written.{getD-sets-inside, getD-sets-other, part-sets}
 use Rattle.definition.specs.Lists.{sum, tabulate, coefficient}
 use Rattle.definition.specs.Substitution.{product, productTerm, cutProduct, cutProductAt}
-use Rattle.remainder.specs.Sums.{Small, lowPart, remainderAt, remainderList}
-use Rattle.rows.specs.Rows.{Factors, Kept, Summed, kept-none, rows-above, term}
+use Rattle.remainder.specs.Sums.{Small, remainderList}
+use Rattle.rows.specs.Rows.{Below}
+use Rattle.summed_product.specs.Sums.{Sums, sums-added, sums-none, sums-remainders, sums-small}
+use Rattle.summed_product.specs.Terms.{Added, Padded, Pair, productOf, values}
+use Rattle.summed_product.specs.declared.Part.{Part}
 
 unfoldable pub residueAt : ℕ → List ℕ → ℕ → ℕ
 residueAt p x i = coefficient x i % p
@@ -40,26 +42,6 @@ product-residues {p} l n x y =
     (cutProduct-listed l n _ _
     ∙ listed-agree (agree-⊠ (residues l) (series-listed l n (series-of l x)) (series-listed l n (series-of l y)))
     ∙ sym (cutProduct-listed l n x y))
-
-module _ {f : ℕ → ℕ} {i s h : ℕ} (k : Kept f i s h) (b : i ≤ 136) where
-  few-terms : i * (2 ^ 32 - 1) ≤ 136 * (2 ^ 32 - 1)
-  few-terms = mul-le-mul {n₂ = 136} {m₂ = 2 ^ 32 - 1} b (le-refl (2 ^ 32 - 1))
-
-  kept-low : lowPart s h ≡ sum i f - 2 ^ 32 * h
-  unfolding lowPart
-  kept-low = rw (k .wraps) (left (k .lower) (omega (arith, few-terms, k .upper)))
-    where
-      left : {a c : ℕ} → c ≤ a → a - c < 2 ^ 64 → (a % 2 ^ 64 + (2 ^ 64 - c % 2 ^ 64)) % 2 ^ 64 ≡ a - c
-      left h g = omega arith
-
-  kept-sum : 2 ^ 32 * h + lowPart s h ≡ sum i f
-  kept-sum = rw kept-low (omega (arith, k .lower))
-
-  kept-small : lowPart s h < 2 ^ 40
-  kept-small = rw kept-low (omega (arith, few-terms, k .upper))
-
-  kept-few : h < 2 ^ 40
-  kept-few = omega (arith, few-terms, k .few)
 
 pub record Zeros (c : ℕ) (zs : List ℕ) : Type 0 where
   pub size : length zs ≡ c
@@ -98,62 +80,61 @@ pub length-residueList : (p n : ℕ) (x : List ℕ) → length (residueList p n 
 unfolding residueList
 length-residueList p n x = length-tabulate n (residueAt p x)
 
--- two lists, reduced modulo p and written into zeros, the second one seven places further up
-module _ {p n : ℕ} (l : 0 < p) (few : n ≤ 128) {us vs : List ℕ} (left : Zeros 136 us) (right : Zeros 136 vs) (x y : List ℕ) where
-  fits : (at : ℕ) → at ≤ 7 → (w : List ℕ) → at + length (residueList p n w) ≤ 136
-  fits at b w = rw length-residueList (omega arith)
+-- a list, reduced modulo p and written into zeros, eight of them before it
+module _ {p n : ℕ} (l : 0 < p) (few : n ≤ 128) {us : List ℕ} (zeros : Zeros 144 us) (x : List ℕ) where
+  abbrev list : List ℕ
+  list = sets us 8 (residueList p n x)
 
-  below : (w : List ℕ) (j : ℕ) → j < length (residueList p n w) → getD (residueList p n w) j 0 < p
-  below w j h = residue-below l n w j (rw length-residueList at h)
+  abbrev part : Part
+  part = record { at = 8; count = n }
 
-  pub factors : Factors p n (sets us 0 (residueList p n x)) (sets vs 7 (residueList p n y))
-  factors = record {
-    order = few;
-    left = rw (length-sets, left .size) (omega arith);
-    right = rw (length-sets, right .size) (omega arith);
-    left-below = record { place = padded-below left 0 (residueList p n x) (fits 0 (omega arith) x) p l (below x) };
-    right-below = record { place = padded-below right 7 (residueList p n y) (fits 7 (omega arith) y) p l (below y) };
-    zeros = padded-before right 7 (residueList p n y) (fits 7 (omega arith) y);
+  fits : 8 + length (residueList p n x) ≤ 144
+  fits = rw length-residueList (omega arith)
+
+  pub read-padded : Padded list part
+  read-padded = record {
+    room = omega arith;
+    fits = rw (length-sets, zeros .size) (omega arith);
+    before = λ k h.
+        let e : 8 - 8 + k ≡ k = omega arith in
+        rw e (padded-before zeros 8 (residueList p n x) fits k h);
+    behind = λ k h.
+        getD-sets-other us 8 (residueList p n x) (8 + n + k) 0 (λ i c e. omega (arith, rw length-residueList at c)) ∙ zeros .blank (8 + n + k);
   }
 
-  -- the rows up to a place add the terms of the product there
-  inside : (k : ℕ) → k < n → (j : ℕ) → j < suc k
-      → term (sets us 0 (residueList p n x)) (sets vs 7 (residueList p n y)) k j
-      ≡ productTerm (coefficient (residueList p n x)) (coefficient (residueList p n y)) k j
-  unfolding productTerm coefficient
-  inside k b j c =
-      let e : k + 7 - j ≡ 7 + (k - j) = omega arith in
-      rw (
-        e,
-        padded-inside right 7 (residueList p n y) (fits 7 (omega arith) y) (k - j) (rw length-residueList (omega arith)),
-        ← zero-add j,
-        padded-inside left 0 (residueList p n x) (fits 0 (omega arith) x) j (rw length-residueList (omega arith)),
-        zero-add j,
-      )
+  pub read-below : Below p list
+  read-below = record {
+    place = padded-below zeros 8 (residueList p n x) fits p l (λ j h. residue-below l n x j (rw length-residueList at h));
+  }
 
-  pub product-by-rows : {sums high : List ℕ} → Summed (n + 8) n (sets us 0 (residueList p n x)) (sets vs 7 (residueList p n y)) sums high
-      → remainderList p n sums high ≡ cutProduct p n x y
-  unfolding remainderList remainderAt cutProduct cutProductAt product coefficient
-  product-by-rows {sums} {high} s =
-      tabulate-cong n (remainderAt p sums high) (cutProductAt p (residueList p n x) (residueList p n y)) at
-      ∙ product-residues l n x y
-    where
-      at : (k : ℕ) → k < n → remainderAt p sums high k ≡ cutProductAt p (residueList p n x) (residueList p n y) k
-      at k b = ap (λ t. t % p)
-          (kept-sum (s .place k b) (omega arith) ∙ rows-above factors k (suc k) (n + 8) (omega arith) (omega arith)
-          ∙ sum-cong (suc k) _ (productTerm (coefficient (residueList p n x)) (coefficient (residueList p n y)) k) (inside k b))
+  pub read-values : values list part ≡ coefficient (residueList p n x)
+  read-values = ap coefficient (rw length-residueList at (part-sets us 8 (residueList p n x) (rw (zeros .size) fits)))
 
-pub summed-none : {n : ℕ} {us vs : List ℕ} → n ≤ 128 → Zeros 128 us → Zeros 128 vs → (x y : List ℕ) → Summed 0 n x y us vs
-summed-none few a b x y = record {
-  sums-room = rw (a .size) few;
-  high-room = rw (b .size) few;
-  place = λ k h. rw (a .blank k, b .blank k) (kept-none (term x y k));
+pub cut-pair : {p n : ℕ} → 0 < p → n ≤ 128 → {us vs ss hs : List ℕ} → Zeros 144 us → Zeros 144 vs → Zeros 128 ss → Zeros 128 hs → (x y : List ℕ)
+    → Pair p (sets us 8 (residueList p n x)) record { at = 8; count = n } (sets vs 8 (residueList p n y)) record { at = 8; count = n } 0 n ss hs
+cut-pair l few u v s h x y = record {
+  left = read-padded l few u x;
+  right = read-padded l few v y;
+  left-below = read-below l few u x;
+  right-below = read-below l few v y;
+  sums-room = rw (s .size) few;
+  high-room = rw (h .size) few;
+  few = omega arith;
 }
 
-pub summed-small : {n : ℕ} {x y sums high : List ℕ} → n ≤ 128 → Summed (n + 8) n x y sums high → Small n sums high
-summed-small few s = record {
-  sums-room = s .sums-room;
-  high-room = s .high-room;
-  low-below = λ k b. kept-small (s .place k b) (omega arith);
-  high-below = λ k b. kept-few (s .place k b) (omega arith);
-}
+-- the product is added to sums that are zero
+module _ {p n : ℕ} (l : 0 < p) (few : n ≤ 128) {us vs ss hs : List ℕ} (u : Zeros 144 us) (v : Zeros 144 vs) (s : Zeros 128 ss) (h : Zeros 128 hs)
+    (x y : List ℕ) {sums high : List ℕ}
+    (added : Added n (n + 8) ss sums hs high (productOf (sets us 8 (residueList p n x)) record { at = 8; count = n }
+    (sets vs 8 (residueList p n y)) record { at = 8; count = n } 0)) where
+  all : Sums n (0 + (n + 8)) sums high (product (coefficient (residueList p n x)) (coefficient (residueList p n y)))
+  all =
+      sums-added (omega arith) (sums-none {n = n} (λ t b. s .blank t) (λ t b. h .blank t)) added
+      (λ t b. rw (read-values l few u x, read-values l few v y, zero-add, zero-add))
+
+  pub cut-small : n ≤ length sums → n ≤ length high → Small n sums high
+  cut-small = sums-small all (omega arith)
+
+  pub cut-remainders : remainderList p n sums high ≡ cutProduct p n x y
+  unfolding cutProduct cutProductAt
+  cut-remainders = sums-remainders all (omega arith) p ∙ product-residues l n x y

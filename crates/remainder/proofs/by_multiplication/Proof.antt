@@ -10,15 +10,15 @@ use Rattle.remainder.proofs.by_multiplication.Tie as tie
 wide-requires : tie.Need-wide-requires
 wide-requires c κs = search needs
 
-to-44-bits-requires : tie.Need-to-44-bits-requires
-to-44-bits-requires c κs =
+to-50-bits-requires : tie.Need-to-50-bits-requires
+to-50-bits-requires c κs =
     let start = c .before in
     rw (c .wide .ensures) (start .pre .0, start .pre .1, start .pre .2, start .pre .3)
 
 to-twice-requires : tie.Need-to-twice-requires
 to-twice-requires c κs =
     let start = c .before .before in
-    (rw (c .before .wide .ensures) (start .pre .0), rw (c .before .wide .ensures) (start .pre .1), c .to-44-bits .ensures .0)
+    (rw (c .before .wide .ensures) (start .pre .0), rw (c .before .wide .ensures) (start .pre .1), c .to-50-bits .ensures .0)
 
 cast-difference : tie.Need-cast-difference
 cast-difference c =
@@ -36,8 +36,8 @@ returns c =
     c .difference .ensures
     ∙ negative-sum (le-refl _) _
     ∙ rw (sub-self, add-zero)
-    (rw (made .before .before .wide .ensures) at (made .to-twice .ensures .1 ∙ made .before .to-44-bits .ensures .1))
+    (rw (made .before .before .wide .ensures) at (made .to-twice .ensures .1 ∙ made .before .to-50-bits .ensures .1))
 
 pub by-multiplication-spec : {M : Type 1} → statement M
 by-multiplication-spec =
-    tie.close (tie.spec wide-requires to-44-bits-requires to-twice-requires cast-difference difference-requires returns)
+    tie.close (tie.spec wide-requires to-50-bits-requires to-twice-requires cast-difference difference-requires returns)

@@ -7,7 +7,7 @@ use Rattle.remainder.specs.Division.{first-term, second-term, folded-rem
 use Rattle.remainder.proofs.folded.Statement.{statement}
 use Rattle.remainder.proofs.folded.Tie as tie
 
-second : (c : tie.Start) → c .args .high / 2 ^ 32 * c .args .second ≤ (2 ^ 8 - 1) * (2 ^ 32 - 1)
+second : (c : tie.Start) → c .args .high / 2 ^ 32 * c .args .second ≤ (2 ^ 14 - 1) * (2 ^ 32 - 1)
 second c = rw (c .pre .3) (second-term (c .args .m) (c .args .high) (c .pre .0) (c .pre .1) (c .pre .4))
 
 first : (c : tie.Start) → c .args .high % 2 ^ 32 * c .args .first ≤ (2 ^ 32 - 1) * 2 ^ 31

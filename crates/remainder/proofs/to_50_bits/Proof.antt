@@ -1,9 +1,9 @@
--- `remainder::to_44_bits` meets its contract. Assumes nothing.
+-- `remainder::to_50_bits` meets its contract. Assumes nothing.
 use borrow.Author.Needs.{needs}
 use native.Mathlib.Omega.{arith}
 use Rattle.remainder.specs.Inverse.{first-step, inverse-small, product-small}
-use Rattle.remainder.proofs.to_44_bits.Statement.{statement}
-use Rattle.remainder.proofs.to_44_bits.Tie as tie
+use Rattle.remainder.proofs.to_50_bits.Statement.{statement}
+use Rattle.remainder.proofs.to_50_bits.Tie as tie
 
 times-requires : tie.Need-times-requires
 times-requires c κs = (omega arith, inverse-small (c .pre .0) (c .pre .1))
@@ -33,5 +33,5 @@ returns c =
     (search needs)
     (c .wrapping-sub-u64 .ensures)
 
-pub to-44-bits-spec : {M : Type 1} → statement M
-to-44-bits-spec = tie.close (tie.spec times-requires times-requires-2 mul-wrapping-sub-u64 wrapping-sub-u64-requires returns)
+pub to-50-bits-spec : {M : Type 1} → statement M
+to-50-bits-spec = tie.close (tie.spec times-requires times-requires-2 mul-wrapping-sub-u64 wrapping-sub-u64-requires returns)

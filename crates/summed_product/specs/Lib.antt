@@ -1,0 +1,6 @@
+-- The laws behind the product of two parts, added to sums row by row.
+--
+--   Terms   the terms of such a product, eight rows at a time
+--   Sums    what the sums keep, and its remainders
+pub mod Terms
+pub mod Sums
