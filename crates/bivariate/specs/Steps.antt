@@ -2,22 +2,30 @@
 --
 --   Source r a t n w    the rows at a, of r places each, lie apart from the n places from t on
 --   row-positive        rows that hold a place are not empty
+--   row-inside          a row ends where the rows do, or before
+--   filling-row         one row more of the rows of a polynomial is written
+--   source-row          that row too lies apart from what is read
+--   negative-reduced    -c modulo p, of a c that is reduced first
 --   constant-beyond denominator-beyond   powers that do not occur in a constant, and in 1 - y g
 --   place-inside held-inside   a coefficient of the polynomial in some rows is a place of the list
 -- Assumes nothing.
-use Prim.Native.Nat.{ℕ, zero, suc, _+_, _*_, _<_, _≤_}
-use native.Mathlib.Nat.{add-assoc, mul-zero}
+use Prim.Native.Nat.{ℕ, zero, suc, _+_, _*_, _%_, _<_, _≤_}
+use native.Mathlib.Nat.{add-assoc, le-refl, mod-mod, mul-le-mul-right, mul-zero, suc-mul, zero-add}
+use native.Mathlib.Numerals.{add-one}
 use native.Mathlib.Omega.{arith}
-use mathlib.Core.Path.{_≡_, refl, sym, _∙_}
+use mathlib.Core.Path.{_≡_, refl, sym, ap, _∙_}
 use mathlib.Core.List.{List}
 use lib.ListN.{length, getD}
 use lib.Arith.{digits-lt}
-use Rattle.algebra.specs.Rows.{planeAt-inside}
-use Rattle.definition.specs.KinoshitaLi.{denominator}
-use Rattle.definition.specs.Lists.{coefficient}
+use lib.Seq.{sets, length-sets}
+use Rattle.algebra.specs.Rows.{length-plane, planeAt-inside}
+use Rattle.definition.specs.KinoshitaLi.{denominator, negative, plane, planePlace}
+use Rattle.definition.specs.Lists.{coefficient, tabulate}
 use Rattle.definition.specs.Substitution.{constant}
-use Rattle.product.specs.Planes.{held}
-use Rattle.buffer.specs.Segments.{Apart, segment, coefficient-segment}
+use Rattle.product.specs.Planes.{held, plane-suc}
+use Rattle.buffer.specs.Filling.{Filling}
+use Rattle.buffer.specs.Segments.{Apart, segment, apart-length, apart-within, coefficient-segment}
+use Rattle.buffer.specs.Written.{sets-append}
 use Rattle.product.specs.declared.Rows.{Rows}
 
 abbrev pub Source : ℕ → Rows → ℕ → ℕ → List ℕ → Type 0
@@ -48,3 +56,27 @@ unfolding denominator
 denominator-beyond p g zero i h l = absurd (h refl)
 denominator-beyond p g (suc zero) i h l = absurd (l refl)
 denominator-beyond p g (suc (suc j)) i h l = refl
+
+pub row-inside : (r : ℕ) {k n : ℕ} → k < n → k * r + r ≤ n * r
+row-inside r {k} below = omega (arith, mul-le-mul-right r below, suc-mul k r)
+
+module _ (r : ℕ) (f : ℕ → ℕ → ℕ) {t n : ℕ} {before now : List ℕ} {k : ℕ} (filling : Filling (planePlace r f) t (n * r) before now (k * r))
+    (below : k < n) where
+  row-written : sets (sets before t (plane r k f)) (t + k * r) (tabulate r (f k)) ≡ sets before t (plane r (k + 1) f)
+  row-written = rw (add-one, plane-suc r k f) (sym (rw length-plane at (sets-append before t (plane r k f) (tabulate r (f k)))))
+
+  pub filling-row : {after : List ℕ} → after ≡ sets now (t + k * r) (tabulate r (f k))
+      → Filling (planePlace r f) t (n * r) before after ((k + 1) * r)
+  unfolding plane
+  filling-row e = record {
+    few = rw (add-one, suc-mul) (row-inside r below);
+    size = ap length e ∙ length-sets now (t + k * r) (tabulate r (f k)) ∙ filling .size;
+    same = e ∙ rw (filling .same) row-written;
+  }
+
+  pub source-row : (q : ℕ) (a : Rows) → Source q a t (n * r) before → Source q a (t + k * r) r now
+  source-row q a s = apart-within (apart-length (filling .size) s) (le-refl _) (le-refl _) (omega arith) (omega (arith, row-inside r below))
+
+pub negative-reduced : (p c : ℕ) → (0 + negative p (c % p)) % p ≡ negative p c
+unfolding negative
+negative-reduced p c = rw (zero-add, mod-mod, mod-mod)

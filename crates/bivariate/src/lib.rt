@@ -1,14 +1,22 @@
 // The steps of route 4 on polynomials in x and y, in rows of one lent buffer, row j for y^j: Q = 1 - y g, Q(-x, y), the even part, x^2 for x, and
-// a window of the powers of y. Products stand in `product`.
-use field::Field;
+// a window of the powers of y. Each is written row by row, so no place is divided by the length of a row. Products stand in `product`.
 use product::Rows;
 ghost use mathlib.Core.Path.{_≡_};
 ghost use Prim.Native.Nat.{_+_, _-_, _*_, _<_, _≤_};
 ghost use lib.ListN.{length};
 ghost use lib.Seq.{sets};
-ghost use Rattle.definition.specs.KinoshitaLi.{denominator, evenPart, opposite, plane, squared, window};
+ghost use Rattle.definition.specs.KinoshitaLi.{denominator, evenPart, negative, opposite, plane, squared, window};
+ghost use Rattle.definition.specs.Lists.{tabulate};
 ghost use Rattle.product.specs.Planes.{held};
 ghost use Rattle.bivariate.specs.Steps.{Source};
+
+// -c modulo p. Only a c that is not below p is divided.
+fn negative(p: u32, c: u32) -> u32
+    requires { ⌜ 0 < p ⌝ }
+    ensures { λ r. ⌜ r ≡ negative p c ⌝ }
+{
+    residue::difference(p, 0, residue::reduced(p, c))
+}
 
 // The coefficient of y^j x^i in 1 - y g.
 fn denominator_place(p: u32, g: &[u32], j: usize, i: usize) -> u32
@@ -19,9 +27,21 @@ fn denominator_place(p: u32, g: &[u32], j: usize, i: usize) -> u32
         return if i == 0 { 1 } else { 0 };
     }
     if j == 1 {
-        return Field { modulus: p }.negative(route::place(g, i));
+        return negative(p, route::place(g, i));
     }
     0
+}
+
+// Writes row j of 1 - y g, of n places, at t.
+fn denominator_row(p: u32, n: usize, g: &[u32], j: usize, w: &mut [u32], t: usize)
+    requires { ⌜ (0 < p) × (t + n ≤ length (now w)) ⌝ }
+    ensures { λ _. ⌜ now (w .exit) ≡ sets (now (w .entry)) t (tabulate n (denominator p (now (g .entry)) j)) ⌝ }
+{
+    let mut i = 0;
+    while i < n {
+        w[t + i] = denominator_place(p, g, j, i);
+        i += 1;
+    }
 }
 
 // Writes the first `count` rows of Q = 1 - y g, of n places each, from place 0 on.
@@ -29,11 +49,10 @@ pub fn denominator(p: u32, n: usize, count: usize, g: &[u32], w: &mut [u32])
     requires { ⌜ (0 < p) × (count * n ≤ length (now w)) ⌝ }
     ensures { λ _. ⌜ now (w .exit) ≡ sets (now (w .entry)) 0 (plane n count (denominator p (now (g .entry)))) ⌝ }
 {
-    let places = count * n;
-    let mut k = 0;
-    while k < places {
-        w[k] = denominator_place(p, g, k / n, k % n);
-        k += 1;
+    let mut j = 0;
+    while j < count {
+        denominator_row(p, n, g, j, w, j * n);
+        j += 1;
     }
 }
 
@@ -56,10 +75,18 @@ fn opposite_place(p: u32, w: &[u32], r: usize, a: Rows, j: usize, i: usize) -> u
     ensures { λ q. ⌜ q ≡ opposite p (held r (now (w .entry)) a) j i ⌝ }
 {
     let c = held_place(w, r, a, j, i);
-    if i % 2 == 0 {
-        c
-    } else {
-        Field { modulus: p }.negative(c)
+    if i % 2 == 0 { c } else { negative(p, c) }
+}
+
+// Writes row j of a(-x, y) at t, for the a in rows of r places.
+fn opposite_row(p: u32, r: usize, w: &mut [u32], a: Rows, j: usize, t: usize)
+    requires { ⌜ (0 < p) × Source r a t r (now w) ⌝ }
+    ensures { λ _. ⌜ now (w .exit) ≡ sets (now (w .entry)) t (tabulate r (opposite p (held r (now (w .entry)) a) j)) ⌝ }
+{
+    let mut i = 0;
+    while i < r {
+        w[t + i] = opposite_place(p, w, r, a, j, i);
+        i += 1;
     }
 }
 
@@ -68,11 +95,22 @@ pub fn opposite(p: u32, r: usize, w: &mut [u32], a: Rows, t: usize)
     requires { ⌜ (0 < p) × Source r a t (a .count * r) (now w) ⌝ }
     ensures { λ _. ⌜ now (w .exit) ≡ sets (now (w .entry)) t (plane r (a .count) (opposite p (held r (now (w .entry)) a))) ⌝ }
 {
-    let places = a.count * r;
-    let mut k = 0;
-    while k < places {
-        w[t + k] = opposite_place(p, w, r, a, k / r, k % r);
-        k += 1;
+    let mut j = 0;
+    while j < a.count {
+        opposite_row(p, r, w, a, j, t + j * r);
+        j += 1;
+    }
+}
+
+// Writes row j of the even powers of x in a, x for x^2, at t in h places, for the a in rows of r places.
+fn even_row(r: usize, h: usize, w: &mut [u32], a: Rows, j: usize, t: usize)
+    requires { ⌜ Source r a t h (now w) ⌝ }
+    ensures { λ _. ⌜ now (w .exit) ≡ sets (now (w .entry)) t (tabulate h (evenPart (held r (now (w .entry)) a) j)) ⌝ }
+{
+    let mut i = 0;
+    while i < h {
+        w[t + i] = held_place(w, r, a, j, 2 * i);
+        i += 1;
     }
 }
 
@@ -81,11 +119,10 @@ pub fn even_part(r: usize, h: usize, w: &mut [u32], a: Rows, t: usize)
     requires { ⌜ Source r a t (a .count * h) (now w) ⌝ }
     ensures { λ _. ⌜ now (w .exit) ≡ sets (now (w .entry)) t (plane h (a .count) (evenPart (held r (now (w .entry)) a))) ⌝ }
 {
-    let places = a.count * h;
-    let mut k = 0;
-    while k < places {
-        w[t + k] = held_place(w, r, a, k / h, 2 * (k % h));
-        k += 1;
+    let mut j = 0;
+    while j < a.count {
+        even_row(r, h, w, a, j, t + j * h);
+        j += 1;
     }
 }
 
@@ -101,16 +138,27 @@ fn squared_place(w: &[u32], h: usize, a: Rows, j: usize, i: usize) -> u32
     }
 }
 
+// Writes row j of a(x^2, y) at t in r places, for the a in rows of h places.
+fn squared_row(h: usize, r: usize, w: &mut [u32], a: Rows, j: usize, t: usize)
+    requires { ⌜ Source h a t r (now w) ⌝ }
+    ensures { λ _. ⌜ now (w .exit) ≡ sets (now (w .entry)) t (tabulate r (squared (held h (now (w .entry)) a) j)) ⌝ }
+{
+    let mut i = 0;
+    while i < r {
+        w[t + i] = squared_place(w, h, a, j, i);
+        i += 1;
+    }
+}
+
 // Writes a(x^2, y) at t in rows of r places, for the a in rows of h places.
 pub fn squared(h: usize, r: usize, w: &mut [u32], a: Rows, t: usize)
     requires { ⌜ Source h a t (a .count * r) (now w) ⌝ }
     ensures { λ _. ⌜ now (w .exit) ≡ sets (now (w .entry)) t (plane r (a .count) (squared (held h (now (w .entry)) a))) ⌝ }
 {
-    let places = a.count * r;
-    let mut k = 0;
-    while k < places {
-        w[t + k] = squared_place(w, h, a, k / r, k % r);
-        k += 1;
+    let mut j = 0;
+    while j < a.count {
+        squared_row(h, r, w, a, j, t + j * r);
+        j += 1;
     }
 }
 

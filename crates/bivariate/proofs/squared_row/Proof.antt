@@ -1,0 +1,68 @@
+-- `bivariate::squared_row` meets its contract. Assumes nothing.
+use borrow.Author.Needs.{needs}
+use Prim.Native.Nat.{_-_}
+use mathlib.Core.Path.{_∙_}
+use Rattle.buffer.specs.Filling.{Filling, filling-first, filling-last, filling-next}
+use Rattle.definition.specs.KinoshitaLi.{squared}
+use Rattle.product.specs.Planes.{held}
+use Rattle.route.specs.Filling.{filling-held}
+use Rattle.bivariate.proofs.squared_row.Statement.{statement}
+use Rattle.bivariate.proofs.squared_row.Tie as tie
+
+abbrev Inv-loop : tie.InvT-loop
+Inv-loop h r w₀ a j t i₀ w i = Filling (squared (held h w₀ a) j) t r w₀ w i
+
+abbrev μ-loop : tie.MeasureT-loop
+μ-loop h r w₀ a j t i₀ w i = r - i
+
+loop-holds : tie.Need-loop-holds Inv-loop μ-loop
+loop-holds c = filling-first _ _ _ _
+
+squared-place-requires : tie.Need-squared-place-requires Inv-loop μ-loop
+squared-place-requires c κs = search needs
+
+add-w : tie.Need-add-w Inv-loop μ-loop
+add-w c = search needs
+
+mul-w : tie.Need-mul-w Inv-loop μ-loop
+mul-w c = search needs
+
+slice-write-w : tie.Need-slice-write-w Inv-loop μ-loop
+slice-write-w c = search needs
+
+add-i : tie.Need-add-i Inv-loop μ-loop
+add-i c = search needs
+
+loop-less : tie.Need-loop-less Inv-loop μ-loop
+loop-less c = search needs
+
+loop-again : tie.Need-loop-again Inv-loop μ-loop
+loop-again c =
+    let turn = c .before .before in
+    let filling = turn .before .loop .inv in
+    let start = turn .before .before .before in
+    filling-next filling (turn .loop-test .taken)
+    (c .squared-place .ensures ∙ rw (filling-held filling (start .args .h) (start .args .a) (start .pre)))
+
+same-length : tie.Need-same-length Inv-loop μ-loop
+same-length c = search needs
+
+returns : tie.Need-returns Inv-loop μ-loop
+returns c = filling-last (c .before .loop .inv) (c .loop-test .left)
+
+pub squared-row-spec : {M : Type 1} → statement M
+squared-row-spec =
+    tie.close
+    (tie.spec
+    Inv-loop
+    μ-loop
+    loop-holds
+    squared-place-requires
+    add-w
+    mul-w
+    slice-write-w
+    add-i
+    loop-less
+    loop-again
+    same-length
+    returns)
