@@ -104,7 +104,8 @@ module _ {p r at rows : ℕ} {w : List ℕ} (reading : Reading p r at rows w) wh
 -- the shorter direction is at most s
 shorter : (s a b : ℕ) → a ≤ b → a * b ≤ s * s → a ≤ s
 shorter s a b h area = by-contra a s (λ c.
-    omega (arith, mul-le-mul {n₁ = s + 1} {n₂ = a} {m₁ = s + 1} {m₂ = b} (omega arith) (omega arith), add-mul s 1 (s + 1), mul-add s s 1, one-mul (s + 1)))
+    let least : (s + 1) * (s + 1) ≤ a * b = mul-le-mul (omega arith) (omega arith) in
+    omega (arith, least, add-mul s 1 (s + 1), mul-add s s 1, one-mul (s + 1)))
 
 pub blocks-few : (s n half rows : ℕ) → n ≤ half → rows * half ≤ s * s → (turned : Bool) → turned ≡ ltb half rows
     → blockPlaces turned n rows ≤ s * s + 8 * s
@@ -118,10 +119,10 @@ blocks-few s n half rows less area false e =
     let few : rows ≤ s = shorter s rows half long area in
     omega (arith, mul-add rows n 8, mul-le-mul-left rows less)
 
-rows-below : (p : ℕ) {z : List ℕ} → ((k : ℕ) → getD z k 0 < p) → (k : ℕ) (g : ℕ → ℕ → ℕ) (a b : ℕ) → b * a ≤ length z → ((j i : ℕ) → g j i < p)
+rows-below : (p : ℕ) (z : List ℕ) → ((k : ℕ) → getD z k 0 < p) → (k : ℕ) (g : ℕ → ℕ → ℕ) (a b : ℕ) → b * a ≤ length z → ((j i : ℕ) → g j i < p)
     → getD (sets z 0 (plane a b g)) k 0 < p
 unfolding plane planePlace coefficient
-rows-below p {z} old k g a b fits small = go (decLt k (b * a))
+rows-below p z old k g a b fits small = go (decLt k (b * a))
   where
     go : Dec (k < b * a) → getD (sets z 0 (plane a b g)) k 0 < p
     go (yes h) =
@@ -150,5 +151,5 @@ module _ (m count : ℕ) (f : ℕ → ℕ → ℕ) (z : List ℕ) (room : count 
   pub packed-below : (p : ℕ) → ((j i : ℕ) → f j i < p) → ((k : ℕ) → getD z k 0 < p) → (turned : Bool) (k : ℕ)
       → getD (sets z 0 (packed turned m count f)) k 0 < p
   unfolding packed planes.turned
-  packed-below p h old true k = rows-below p old k (planes.turned f) count m (rw (mul-comm m count) room) (λ i j. h j i)
-  packed-below p h old false k = rows-below p old k f m count room h
+  packed-below p h old true k = rows-below p z old k (planes.turned f) count m (rw (mul-comm m count) room) (λ i j. h j i)
+  packed-below p h old false k = rows-below p z old k f m count room h

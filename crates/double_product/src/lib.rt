@@ -6,7 +6,7 @@ ghost use lib.ListN.{length};
 ghost use lib.Seq.{sets};
 ghost use Rattle.definition.specs.KinoshitaLi.{cutProduct2At, opposite, plane, window};
 ghost use Rattle.definition.specs.Lists.{ceilDiv, tabulate};
-ghost use Rattle.double_product.specs.Opposite.{OppositeLists, OppositeRoom, oppositeProduct};
+ghost use Rattle.double_product.specs.Opposite.{OppositeRoom, Sized, oppositeProduct};
 ghost use Rattle.double_product.specs.Rows.{rowsAt};
 ghost use Rattle.double_product.specs.Places.{Halves, Packed, Putting, oppositePlace, packedAt, placeOf, spreadPlace};
 
@@ -178,7 +178,7 @@ fn opposite_in(
     even: &mut [u32],
     odd: &mut [u32],
 )
-    requires { ⌜ OppositeRoom p r at rows t count (now w) × OppositeLists p r rows (now left) (now even) (now odd) ⌝ }
+    requires { ⌜ OppositeRoom p r at rows t count (now w) × Sized p r rows (now left) (now even) (now odd) ⌝ }
     ensures { λ s. ⌜ now (w .exit) ≡ sets (now (w .entry)) t (plane r count (oppositeProduct p (rowsAt r (now (w .entry)) at rows))) ⌝ }
 {
     let half = number::rounded_up(r, 2);
