@@ -8,15 +8,15 @@
 --   opposite-written       and what it leaves
 -- Assumes nothing.
 use Prim.Native.Nat.{ℕ, zero, suc, _+_, _-_, _*_, _/_, _%_, _<_, _≤_, _^_}
-use native.Mathlib.Nat.{add-comm, add-zero, le-refl, mod-lt, mul-assoc, mul-le-mul, mul-le-mul-left, mul-le-mul-right, mul-one, one-mul, zero-add}
-use native.Mathlib.Numerals.{add-one}
+use native.Mathlib.Decide.{decLt}
+use native.Mathlib.Nat.{le-refl, mod-lt, mul-assoc, mul-le-mul, mul-le-mul-left, mul-le-mul-right, mul-one, one-mul}
 use native.Mathlib.Omega.{arith}
 use borrow.Author.Tests.{eq-eqb, ne-eqb}
 use mathlib.Core.Bool.{Bool, true, true≢false}
 use mathlib.Core.List.{List}
 use mathlib.Core.Path.{_≡_, refl, sym, ap, _∙_}
 use lib.Dec.{ltb}
-use lib.ListN.{length, getD}
+use lib.ListN.{length, getD, replicate, length-replicate, getD-replicate, List·getD-eq-default}
 use lib.Seq.{sets, length-sets}
 use Rattle.algebra.specs.Rows.{plane-agree}
 use Rattle.definition.specs.KinoshitaLi.{cutProduct2At, evenPart, opposite, plane}
@@ -24,7 +24,7 @@ use Rattle.definition.specs.Lists.{ceilDiv}
 use Rattle.grids.specs.Grid.{Clean}
 use Rattle.grids.specs.Parts.{Few, Room, Source, SquarePut, blockPlaces, every}
 use Rattle.planes.specs.Parity.{oddPart, opposite-even, opposite-first, opposite-odd}
-use Rattle.double_product.specs.Places.{Halves, Putting, oppositePlace, packedAt, placeOf}
+use Rattle.double_product.specs.Places.{Putting, oppositePlace, packedAt, placeOf}
 use Rattle.double_product.specs.Rows.{Reading, blocks-few, even-source, every-even, every-odd, odd-source, packed-at, packed-below, rowsAt}
 
 abbrev pub oppositeProduct : ℕ → (ℕ → ℕ → ℕ) → ℕ → ℕ → ℕ
@@ -185,3 +185,37 @@ module _ {p r at rows t count : ℕ} {w : List ℕ} (room : OppositeRoom p r at 
     pub opposite-written : {w′ : List ℕ} → w′ ≡ sets w t (plane r count (placeOf p true turned half (half - 1) count even′ odd′))
         → w′ ≡ sets w t (plane r count (oppositeProduct p Q))
     opposite-written e = e ∙ ap (sets w t) (plane-agree r count place-at)
+
+-- a list of zeros, as a local list is made
+pub record Zeros (n : ℕ) (l : List ℕ) : Type 0 where
+  pub size : length l ≡ n
+  pub blank : (k : ℕ) → getD l k 0 ≡ 0
+
+pub zeros : (n : ℕ) → Zeros n (replicate n 0)
+zeros n = record { size = length-replicate n 0; blank = λ k. at k (decLt k n) }
+  where
+    at : (k : ℕ) → Dec (k < n) → getD {A = ℕ} (replicate n 0) k 0 ≡ 0
+    at k (yes b) = getD-replicate n k 0 0 b
+    at k (no b) = List·getD-eq-default (replicate n 0) 0 (rw length-replicate (omega arith))
+
+pub zeros-clean : {p n : ℕ} {l : List ℕ} → 0 < p → Zeros n l → Clean p l
+zeros-clean positive z = record {
+  below = record { place = λ k. rw (z .blank k) positive };
+  zeros = λ k b. z .blank k;
+}
+
+pub sized : {p : ℕ} → 0 < p → (r rows side : ℕ) {left even odd : List ℕ} → side ≤ 64 → rows * ceilDiv r 2 ≤ side * side
+    → Zeros (8 + (side * side + 8 * side)) left → Zeros (2 * (side * side)) even → Zeros (2 * (side * side)) odd → Sized p r rows left even odd
+sized positive r rows side few size l e o = record {
+  side = side;
+  lists = record {
+    few = few;
+    clean = zeros-clean positive l;
+    left-room = rw (l .size) (le-refl _);
+    even-room = rw (e .size) (le-refl _);
+    odd-room = rw (o .size) (le-refl _);
+    even-below = λ k. rw (e .blank k) positive;
+    odd-below = λ k. rw (o .blank k) positive;
+  };
+  size = size;
+}

@@ -7,14 +7,14 @@
 --   blocks-few             the places that they take in blocks, where the product of both directions is at most s²
 --   packed-at packed-below   a place of a packed list, and all places are residues
 -- Assumes nothing.
-use Prim.Native.Nat.{ℕ, suc, _+_, _-_, _*_, _/_, _%_, _<_, _≤_, _^_}
-use native.Mathlib.Decide.{decLe, decLt}
-use native.Mathlib.Nat.{add-mul, add-zero, mod-lt, mul-add, mul-comm, mul-le-mul, mul-le-mul-left, mul-le-mul-right, one-mul, suc-mul, zero-add}
+use Prim.Native.Nat.{ℕ, _+_, _-_, _*_, _/_, _%_, _<_, _≤_, _^_}
+use native.Mathlib.Decide.{decLt}
+use native.Mathlib.Nat.{add-mul, add-zero, mul-add, mul-comm, mul-le-mul, mul-le-mul-left, mul-le-mul-right, one-mul, suc-mul, zero-add}
 use native.Mathlib.Omega.{arith, by-contra}
 use borrow.Author.Tests.{le-ltb, lt-ltb, ltb-false, ltb-true}
-use mathlib.Core.Bool.{Bool, cond, false, true}
+use mathlib.Core.Bool.{Bool, false, true}
 use mathlib.Core.List.{List}
-use mathlib.Core.Path.{_≡_, sym, ap, fun-ext, _∙_}
+use mathlib.Core.Path.{_≡_, sym, fun-ext, _∙_}
 use lib.Dec.{ltb}
 use lib.ListN.{length, getD}
 use lib.Seq.{sets}
@@ -80,7 +80,7 @@ module _ {p r at rows : ℕ} {w : List ℕ} (reading : Reading p r at rows w) wh
   row-fits : (j : ℕ) → j < rows → at + j * r + r ≤ length w
   row-fits j b = plane-fits at r rows j (reading .source) b
 
-  source-of : (turned : Bool) (n c : ℕ) {l : List ℕ} → ((i : ℕ) → i < n → 2 * i + c < r) → c ≤ r → Clean p l → 8 + blockPlaces turned n rows ≤ length l
+  pub source-of : (turned : Bool) (n c : ℕ) {l : List ℕ} → ((i : ℕ) → i < n → 2 * i + c < r) → c ≤ r → Clean p l → 8 + blockPlaces turned n rows ≤ length l
       → Source p turned r n w (at + c) rows l
   source-of turned n c below few clean room = record {
     modulus = reading .modulus;
@@ -102,7 +102,7 @@ module _ {p r at rows : ℕ} {w : List ℕ} (reading : Reading p r at rows w) wh
   odd-source turned {half} e clean room = source-of turned (r - half) 1 (λ i b. omega arith) (reading .positive) clean room
 
 -- the shorter direction is at most s
-shorter : (s a b : ℕ) → a ≤ b → a * b ≤ s * s → a ≤ s
+pub shorter : (s a b : ℕ) → a ≤ b → a * b ≤ s * s → a ≤ s
 shorter s a b h area = by-contra a s (λ c.
     let least : (s + 1) * (s + 1) ≤ a * b = mul-le-mul (omega arith) (omega arith) in
     omega (arith, least, add-mul s 1 (s + 1), mul-add s s 1, one-mul (s + 1)))

@@ -1,46 +1,34 @@
 -- `double_product::opposite_place` meets its contract. Assumes nothing.
 use borrow.Author.Needs.{needs}
 use native.Mathlib.Omega.{arith}
-use Prim.Native.Nat.{ℕ, _+_, _*_, _-_, _<_, _≤_, _%_}
-use lib.ListN.{length, getD, take, drop, set}
+use Prim.Native.Nat.{_<_}
 use borrow.Author.Tests.{eq-eqb, ne-eqb}
 use Rattle.double_product.specs.Places.{oppositePlace, packed-residue}
-use mathlib.Core.Path.{_≡_, refl, sym, ap, _∙_}
+use mathlib.Core.Path.{sym, _∙_}
 use Rattle.double_product.proofs.opposite_place.Statement.{statement}
 use Rattle.double_product.proofs.opposite_place.Tie as tie
-use Rattle.double_product.proofs.opposite_place.Reads as reads
-use Rattle.double_product.proofs.opposite_place.Lts as lts
-use Rattle.double_product.proofs.packed.Reads as packed-reads
-use Rattle.residue.proofs.difference.Reads as difference-reads
 
--- src/lib.rt:38:9
 returns : tie.Need-returns
 unfolding oppositePlace
 returns c = sym (rw (eq-eqb _ 1 (c .if1 .taken)))
 
--- src/lib.rt:40:9
 packed-requires : tie.Need-packed-requires
 packed-requires c κs = search needs
 
--- src/lib.rt:42:9
 returns-2 : tie.Need-returns-2
 unfolding oppositePlace
 returns-2 c =
     c .before .packed .ensures ∙ sym (rw (ne-eqb _ 1 (c .before .before .if1 .left), eq-eqb _ 0 (c .if2 .taken)))
 
--- src/lib.rt:44:46
 sub-packed : tie.Need-sub-packed
 sub-packed c = search needs
 
--- src/lib.rt:44:71
 sub-packed-2 : tie.Need-sub-packed-2
 sub-packed-2 c = search needs
 
--- src/lib.rt:44:31
 packed-requires-2 : tie.Need-packed-requires-2
 packed-requires-2 c κs = search needs
 
--- src/lib.rt:44:5
 difference-requires : tie.Need-difference-requires
 difference-requires c κs =
     let start = c .before .before .before .before .before .before in

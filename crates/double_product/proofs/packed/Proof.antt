@@ -1,54 +1,39 @@
 -- `double_product::packed` meets its contract. Assumes nothing.
-use borrow.Author.Needs.{needs}
 use native.Mathlib.Omega.{arith}
-use Prim.Native.Nat.{ℕ, _+_, _*_, _-_, _<_, _≤_, _%_}
-use lib.ListN.{length, getD, take, drop, set}
 use Rattle.definition.specs.Lists.{coefficient}
 use Rattle.double_product.specs.Places.{packed-column, packed-row, packedAt}
-use mathlib.Core.Path.{_≡_, refl, sym, ap, _∙_}
+use mathlib.Core.Path.{sym}
 use Rattle.double_product.proofs.packed.Statement.{statement}
 use Rattle.double_product.proofs.packed.Tie as tie
-use Rattle.double_product.proofs.packed.Reads as reads
-use Rattle.double_product.proofs.packed.Lts as lts
 
--- src/lib.rt:17:18
 mul-result : tie.Need-mul-result
 mul-result c = record { fits = omega (arith, packed-column (c .before .pre .0), c .before .pre .1, c .before .fits) }
 
--- src/lib.rt:17:18
 add-result : tie.Need-add-result
 add-result c = record { fits = omega (arith, packed-column (c .before .pre .0), c .before .pre .1, c .before .fits) }
 
--- src/lib.rt:17:16
 mul-result-2 : tie.Need-mul-result-2
 mul-result-2 c = record { fits = omega (arith, packed-column (c .before .pre .0), c .before .pre .1, c .before .fits) }
 
--- src/lib.rt:17:16
 shared-slice-read-result : tie.Need-shared-slice-read-result
 shared-slice-read-result c = omega (arith, packed-column (c .before .before .pre .0), c .before .before .pre .1)
 
--- src/lib.rt:17:9
 returns : tie.Need-returns
 unfolding packedAt coefficient
 returns c = sym (rw (c .before .if1 .taken))
 
--- src/lib.rt:19:7
 mul-result-3 : tie.Need-mul-result-3
 mul-result-3 c = record { fits = omega (arith, packed-row (c .before .pre .0), c .before .pre .1, c .before .fits) }
 
--- src/lib.rt:19:7
 add-result-2 : tie.Need-add-result-2
 add-result-2 c = record { fits = omega (arith, packed-row (c .before .pre .0), c .before .pre .1, c .before .fits) }
 
--- src/lib.rt:19:5
 mul-result-4 : tie.Need-mul-result-4
 mul-result-4 c = record { fits = omega (arith, packed-row (c .before .pre .0), c .before .pre .1, c .before .fits) }
 
--- src/lib.rt:19:5
 shared-slice-read-result-2 : tie.Need-shared-slice-read-result-2
 shared-slice-read-result-2 c = omega (arith, packed-row (c .before .before .pre .0), c .before .before .pre .1)
 
--- src/lib.rt:12:1
 returns-2 : tie.Need-returns-2
 unfolding packedAt coefficient
 returns-2 c = sym (rw (c .before .if1 .left))

@@ -1,18 +1,15 @@
 -- `double_product::put` meets its contract: the first j rows are written. Assumes nothing.
 use borrow.Author.Needs.{needs}
 use native.Mathlib.Omega.{arith}
-use Prim.Native.Nat.{ℕ, _+_, _*_, _-_, _<_, _≤_, _%_}
-use lib.ListN.{length, getD, take, drop, set}
+use Prim.Native.Nat.{_+_, _*_, _-_, _<_, _≤_}
+use lib.ListN.{length}
 use lib.Seq.{sets}
 use Rattle.definition.specs.KinoshitaLi.{plane}
 use Rattle.planes.specs.Rows.{plane-first, plane-fits, plane-next}
 use Rattle.double_product.specs.Places.{placeOf}
-use mathlib.Core.Path.{_≡_, refl, sym, ap, _∙_}
+use mathlib.Core.Path.{_≡_, refl}
 use Rattle.double_product.proofs.put.Statement.{statement}
 use Rattle.double_product.proofs.put.Tie as tie
-use Rattle.double_product.proofs.put.Reads as reads
-use Rattle.double_product.proofs.put.Lts as lts
-use Rattle.double_product.proofs.put_row.Reads as put-row-reads
 
 abbrev Inv-loop : tie.InvT-loop
 Inv-loop p opposite turned r half rest count even odd w₀ t j₀ w j =
@@ -21,7 +18,6 @@ Inv-loop p opposite turned r half rest count even odd w₀ t j₀ w j =
 abbrev μ-loop : tie.MeasureT-loop
 μ-loop p opposite turned r half rest count even odd w₀ t j₀ w j = count - j
 
--- src/lib.rt:147:5
 abbrev start : tie.At-loop Inv-loop μ-loop → tie.Start Inv-loop μ-loop
 start c = c .before .before .before .before
 
@@ -32,39 +28,31 @@ room c below = plane-fits (start c .args .t) (start c .args .r) (start c .args .
 loop-holds : tie.Need-loop-holds Inv-loop μ-loop
 loop-holds c = (omega arith, refl, plane-first _ _ _ _)
 
--- src/lib.rt:160:17
 mul-put-row : tie.Need-mul-put-row Inv-loop μ-loop
 mul-put-row c = record { fits = omega (arith, room (c .before .before) (c .before .loop-test .taken), start (c .before .before) .fits) }
 
--- src/lib.rt:160:13
 add-put-row : tie.Need-add-put-row Inv-loop μ-loop
 add-put-row c = record { fits = omega (arith, room (c .before .before) (c .before .loop-test .taken), start (c .before .before) .fits) }
 
--- src/lib.rt:148:9
 put-row-requires : tie.Need-put-row-requires Inv-loop μ-loop
 put-row-requires c κs =
     let at = c .before .before in
     (start at .pre .0, c .before .loop-test .taken, omega (arith, room at (c .before .loop-test .taken), at .loop .inv .1))
 
--- src/lib.rt:162:9
 add-j : tie.Need-add-j Inv-loop μ-loop
 add-j c = search needs
 
--- src/lib.rt:147:5
 loop-less : tie.Need-loop-less Inv-loop μ-loop
 loop-less c = search needs
 
--- src/lib.rt:147:5
 loop-again : tie.Need-loop-again Inv-loop μ-loop
 loop-again c =
     let at = c .before .before .before .before .before in
     (omega (arith, c .before .before .before .before .loop-test .taken), search needs, plane-next _ _ _ _ _ (at .loop .inv .2) (c .before .before .put-row .ensures))
 
--- src/lib.rt:130:1
 same-length : tie.Need-same-length Inv-loop μ-loop
 same-length c = search needs
 
--- src/lib.rt:130:1
 returns : tie.Need-returns Inv-loop μ-loop
 returns c =
     let at = c .before in

@@ -1,0 +1,45 @@
+-- `double_product::spread` meets its contract. Assumes nothing.
+use borrow.Author.Needs.{needs}
+use native.Mathlib.Omega.{arith}
+use Prim.Native.Nat.{_*_, _≤_}
+use Rattle.double_product.proofs.spread.Statement.{statement}
+use Rattle.double_product.proofs.spread.Tie as tie
+
+rounded-up-requires : tie.Need-rounded-up-requires
+rounded-up-requires c κs = search needs
+
+mul-if1 : tie.Need-mul-if1
+mul-if1 c =
+    let few : c .before .before .args .more * c .rounded-up .result ≤ 4096 = rw (c .rounded-up .ensures) (c .before .before .pre .1) in
+    record { fits = omega arith }
+
+spread-small-requires : tie.Need-spread-small-requires
+spread-small-requires c κs = (c .before .before .before .before .pre .0, rw (← c .before .before .rounded-up .ensures) (c .before .if1 .taken))
+
+spread-large-requires : tie.Need-spread-large-requires
+spread-large-requires c κs = search needs
+
+same-length : tie.Need-same-length
+same-length c = search needs
+
+returns : tie.Need-returns
+returns c = search needs
+
+same-length-2 : tie.Need-same-length-2
+same-length-2 c = search needs
+
+returns-2 : tie.Need-returns-2
+returns-2 c = search needs
+
+pub spread-spec : {M : Type 1} → statement M
+spread-spec =
+    tie.close
+    (tie.spec
+    rounded-up-requires
+    mul-if1
+    spread-small-requires
+    spread-large-requires
+    same-length
+    returns
+    same-length-2
+    returns-2)
