@@ -7,6 +7,7 @@
 --   composed-∷         Horner's rule: on which route 1 stands
 --   composed-++        the composition of an appended list, on which route 2 stands
 --   composed-agree     the composition depends on the inner list below n alone
+--   composed-outer     and on the outer list below n alone, where the inner list has no constant term
 --   composed-assoc     composition is associative, where the innermost list has no constant term
 --   composed-equal     when two compositions with one inner list are equal (demand 3, for lists)
 use Prim.Native.Nat.{ℕ, zero, suc, _*_, _%_, _<_, _≤_}
@@ -37,7 +38,7 @@ use Rattle.algebra.specs.Prime.{prime-positive}
 use Rattle.algebra.specs.Residue.{Residue, residue, residues, residues-negation, reduction, residue-0, residue-equal, residue-zero}
 use Rattle.algebra.specs.Semiring.{⊗-comm}
 use Rattle.algebra.specs.Series.{Series, tail, shift, shift-0, shift-suc, decompose, indeterminate-⊠}
-use Rattle.algebra.specs.Substitution.{evaluate-assoc}
+use Rattle.algebra.specs.Substitution.{evaluate-assoc, substitute-agree, substitute-coefficients}
 use Rattle.algebra.specs.Vanishing.{taylor-agreement}
 use Rattle.algebra.specs.Valuation.{valuation-positive, valuation-zero, valuation-nonzero}
 use Rattle.algebra.specs.Lists.{tabulate-cong, coefficient-tabulate, length-tabulate, ceilDiv-below}
@@ -100,6 +101,18 @@ module _ {p : ℕ} (l : 0 < p) where
 
   pub series-constant : (h : List ℕ) → coefficient h 0 ≡ 0 → series-of l h 0 ≡ residues l .𝟘
   series-constant h e = rw (coefficients-at (reduction l), e, residue-0 l)
+
+  pub composed-outer : (n : ℕ) (f g h : List ℕ) → coefficient h 0 ≡ 0 → Agree n (coefficient f) (coefficient g)
+      → composed p n f h ≡ composed p n g h
+  unfolding coefficient
+  composed-outer n f g h z e =
+      rw (
+        composed-listed l n f h,
+        composed-listed l n g h,
+        ← substitute-coefficients (reduction l) (series-of l h) (series-constant h z) f,
+        ← substitute-coefficients (reduction l) (series-of l h) (series-constant h z) g,
+      )
+      (listed-agree (substitute-agree (residues l) (series-agree f g e) (agree-refl (series-of l h))))
 
   pub composed-assoc : (n : ℕ) (f g h : List ℕ) → coefficient h 0 ≡ 0
       → composed p n (composed p n f g) h ≡ composed p n f (composed p n g h)

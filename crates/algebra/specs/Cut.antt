@@ -1,7 +1,7 @@
 -- Windows, degrees and cuts of a series. Assumes nothing.
 --
 --   window e a            the powers from e on, moved down to 0
---   ⊠-window              the window of a product is the product with a window, if the other factor has no powers that reach below it
+--   ⊠-window              the window of a product is the product with a window, if no power below the window takes part
 --   Degree R m q a        a has no powers from q + 1 to m - 1
 --   ⊠-degree              the degree of a product
 --   cut R n a             a below n, 𝟘 from n on
@@ -16,7 +16,7 @@ use lib.Dec.{ltb}
 use mathlib.Core.Bool.{cond}
 use mathlib.Core.Path.{_≡_, sym, ap, fun-ext, _∙_}
 use native.Mathlib.Decide.{decLe, decLt}
-use native.Mathlib.Nat.{suc-add, zero-add}
+use native.Mathlib.Nat.{sub-zero, suc-add, suc-sub-suc, zero-add}
 use native.Mathlib.Omega.{arith}
 use Rattle.algebra.specs.Agree.{Agree, agree-refl, agree-trans}
 use Rattle.algebra.specs.Homomorphism.{Homomorphism, coefficients, coefficients-at, map-cond}
@@ -35,18 +35,12 @@ module _ {A : Type 0} (R : Semiring A) where
   abbrev pub Degree : ℕ → ℕ → Series A → Type 0
   Degree m q a = (i : ℕ) → q < i → i < m → a i ≡ 𝟘
 
-  pub ⊠-window : (e k : ℕ) (a b : Series A) → ((i : ℕ) → k < i → i ≤ e + k → b i ≡ 𝟘)
+  pub ⊠-window : (e k : ℕ) (a b : Series A) → ((i : ℕ) → i < e → a i ⊗ b (e + k - i) ≡ 𝟘)
       → (a ⊠ b) (e + k) ≡ (window e a ⊠ b) k
   ⊠-window zero k a b v = rw zero-add (ap (λ s. (s ⊠ b) k) (fun-ext λ j. ap a (sym (zero-add j))))
   ⊠-window (suc e) k a b v =
-      rw (
-        suc-add,
-        ⊠-suc R,
-        v (suc (e + k)) (omega arith) (omega arith),
-        ⊗-𝟘 R,
-        𝟘-⊕ R,
-        ⊠-window e k (tail a) b (λ i l u. v i l (omega arith)),
-      )
+      let first : a 0 ⊗ b (suc (e + k)) ≡ 𝟘 = rw (suc-add, sub-zero) at (v 0 (omega arith)) in
+      rw (suc-add, ⊠-suc R, first, 𝟘-⊕ R, ⊠-window e k (tail a) b (λ i l. rw (suc-add, suc-sub-suc) at (v (suc i) (omega arith))))
       (ap (λ s. (s ⊠ b) k) (fun-ext λ j. ap a (sym (suc-add e j))))
 
   pub ⊠-degree : (m p q : ℕ) (a b : Series A) → Degree m p a → Degree m q b → Degree m (p + q) (a ⊠ b)

@@ -4,7 +4,6 @@
 --   reverse-reversion     and a list of n places below p whose series is such a reverse satisfies it
 --   reversion-unique      there is at most one reverse series
 --   reversion-symmetric   it is one from the other side too: h(g) is x modulo x^n
---   zero-of               a coefficient below p whose residue is 𝟘 is 0
 --   reversion-none        where `irreversible` is true there is none
 use Prim.Native.Nat.{ℕ, zero, suc, _<_}
 use mathlib.Core.List.{List}
@@ -85,7 +84,8 @@ module _ {p : ℕ} (l : 0 < p) (above : 1 < p) where
       (reverse-evaluate (reduction l) h (series-of l g) z .1 (reverse-sym (residues l) (residues-negation l) (suc n) z s))
       ∙ sym (identity-listed l (suc n) above)
 
-  pub zero-of : (g : List ℕ) → exceeds p g ≡ false → (i : ℕ) → series-of l g i ≡ residues l .𝟘 → coefficient g i ≡ 0
+  -- a coefficient below p whose residue is 𝟘 is 0
+  zero-of : (g : List ℕ) → exceeds p g ≡ false → (i : ℕ) → series-of l g i ≡ residues l .𝟘 → coefficient g i ≡ 0
   zero-of g e i z =
       sym (mod-eq-of-lt (below l g e i)) ∙ residue-zero l (coefficient g i) .0 (sym (coefficients-at (reduction l) (coefficient g) i) ∙ z)
 

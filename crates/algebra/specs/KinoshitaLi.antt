@@ -53,7 +53,7 @@ use Rattle.algebra.specs.Plane.{
   cut-plane-𝟙,
 }
 use Rattle.algebra.specs.Quotient.{quotient, quotient-unique, quotient-⊠, quotient-map}
-use Rattle.algebra.specs.Semiring.{Semiring, ⊗-assoc, ⊗-comm}
+use Rattle.algebra.specs.Semiring.{Semiring, ⊗-assoc, ⊗-comm, ⊗-𝟘}
 use Rattle.algebra.specs.Series.{Series, series, series-negation, constant-0}
 use Rattle.algebra.specs.Spread.{spread-agree, spread-constant}
 
@@ -110,8 +110,8 @@ module _ {A : Type 0} (R : Semiring A) (N : Negation R) (P : Series A) where
         S : Plane A
         S = fraction (graeffe R N Q)
 
-        vanishes : (i : ℕ) → c + j < i → i ≤ e + (c + j) → opposite R N Q i ≡ 𝟘
-        vanishes i a b = opposite-degree R N (degree (omega arith)) i (omega arith) (omega arith)
+        vanishes : (i : ℕ) → i < e → series R ._⊗_ (squared R S i) (opposite R N Q (e + (c + j) - i)) ≡ 𝟘
+        vanishes i b = rw (opposite-degree R N (degree (omega arith)) (e + (c + j) - i) (omega arith) (omega arith), ⊗-𝟘 (series R))
 
         windows : AgreePlane (suc (c + j)) r (squared R U) (window e (squared R S))
         windows i b =

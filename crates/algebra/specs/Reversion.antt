@@ -15,12 +15,14 @@
 --   newton N h s          Newton's step h - (s - x) h', where s is g(h)
 --   newton-step           it takes a reverse below k + 1 to one below 2k + 1
 --   newton-cut            the same below m ≤ 2k + 1, where s and the result are known below m
+--   newton-window         where s is x below i, the step leaves h as it is there, and only the powers of s from i on take part
 --   reverse-exists        if g_0 is 𝟘 and g_1 has an inverse, then there is a reverse below every n
 --   reverse-sym           g is a reverse of h if h is one of g
-use Prim.Native.Nat.{ℕ, zero, suc, _+_, _≤_}
+use Prim.Native.Nat.{ℕ, zero, suc, _+_, _-_, _<_, _≤_}
 use mathlib.Core.List.{List}
 use mathlib.Core.Logic.{_↔_, _≢_}
-use mathlib.Core.Path.{_≡_, sym, ap, _∙_}
+use mathlib.Core.Path.{_≡_, sym, ap, fun-ext, _∙_}
+use native.Mathlib.Decide.{decLt}
 use native.Mathlib.Nat.{zero-add}
 use native.Mathlib.Omega.{arith}
 use Rattle.algebra.specs.Agree.{
@@ -41,6 +43,7 @@ use Rattle.algebra.specs.Agree.{
   agree-⊠,
   vanish-⊠,
 }
+use Rattle.algebra.specs.Cut.{window, ⊠-window}
 use Rattle.algebra.specs.Derivative.{
   derivative,
   derivative-0,
@@ -52,7 +55,7 @@ use Rattle.algebra.specs.Derivative.{
 }
 use Rattle.algebra.specs.Evaluate.{evaluate, polynomial}
 use Rattle.algebra.specs.Homomorphism.{Homomorphism, coefficients, composite, constants}
-use Rattle.algebra.specs.Negation.{Negation, add-difference, equal-by-difference, neg-⊕, ⊕-cancel, ⊕-neg-cancel, ⊗-neg}
+use Rattle.algebra.specs.Negation.{Negation, add-difference, equal-by-difference, neg-𝟘, neg-⊕, ⊕-cancel, ⊕-neg-cancel, ⊗-neg}
 use Rattle.algebra.specs.Semiring.{Semiring, 𝟘-⊕, ⊕-𝟘, 𝟘-⊗, ⊗-𝟘, 𝟙-⊗, ⊗-𝟙, ⊕-assoc, ⊗-assoc, ⊗-comm, ⊗-left-comm, ⊗-⊕}
 use Rattle.algebra.specs.Series.{
   Series,
@@ -61,6 +64,7 @@ use Rattle.algebra.specs.Series.{
   constant-suc,
   indeterminate,
   indeterminate-0,
+  indeterminate-above,
   indeterminate-shift,
   neg-at,
   series,
@@ -246,6 +250,28 @@ module _ {A : Type 0} (R : Semiring A) where
         agree-⊞ R (agree-refl h)
         (agree-neg R N (agree-⊠ R (agree-⊞ R a (agree-refl _)) (agree-refl (derivative R h)))) in
         reverse-agree e (agree-refl g) (agree-trans b step) (reverse-weaken l (newton-step r))
+
+    pub newton-window : {i m : ℕ} {h s t : Series A} → 1 < i → Agree i s (indeterminate R) → Agree i t h
+        → Agree m (window i t) (window i h ⊞ neg (window i s ⊠ derivative R h)) → Agree (i + m) t (newton h s)
+    newton-window {i} {m} {h} {s} {t} above known low high k l = at (decLt k i)
+      where
+        e : Series A
+        e = s ⊞ neg (indeterminate R)
+
+        error : Vanish R i e
+        error = agree-difference R N known
+
+        error-window : window i e ≡ window i s
+        error-window = fun-ext λ j. rw (⊞-at, neg-at, indeterminate-above R (i + j) (omega arith), neg-𝟘 R N, ⊕-𝟘)
+
+        late : (j : ℕ) → j < m → t (i + j) ≡ newton h s (i + j)
+        late j b =
+            high j b
+            ∙ rw (⊞-at, ⊞-at, neg-at, neg-at, ⊠-window R i j e (derivative R h) (λ k c. rw (error k c, 𝟘-⊗)), error-window)
+
+        at : Dec (k < i) → t k ≡ newton h s k
+        at (yes b) = low k b ∙ sym (agree-⊞-vanish R h (vanish-neg R N (vanish-multiple R (derivative R h) error)) k b)
+        at (no b) = let j : i + (k - i) ≡ k = omega arith in rw j at (late (k - i) (omega arith))
 
     module _ (g : Series A) (c : A) (g-0 : g 0 ≡ 𝟘) (unit : c ⊗ g 1 ≡ 𝟙) where
       newton-iterate : (n : ℕ) → (h : Series A) × Reverse R (suc (suc n)) g h

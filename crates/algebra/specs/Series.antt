@@ -18,7 +18,7 @@
 --   constant-⊠-at             coefficients of a constant times a series
 --   shift-0 shift-suc tail-shift   coefficients and tail of a shift
 --   shift-⊠                   a shift moves out of a product
---   indeterminate-shift indeterminate-0   x is the shift of 𝟙, and its constant term is 𝟘
+--   indeterminate-shift indeterminate-0 indeterminate-above   x is the shift of 𝟙, and its coefficients at 0 and above 1 are 𝟘
 --   indeterminate-⊠           the product with x is the shift
 --   decompose                 a series is its constant term plus x times its tail
 --   power-⊠-above power-⊠-below   coefficients of x^j times a series, from place j on and before it
@@ -207,6 +207,10 @@ module _ {A : Type 0} (R : Semiring A) where
 
   pub indeterminate-0 : indeterminate 0 ≡ 𝟘
   indeterminate-0 = rw (indeterminate-shift, shift-0)
+
+  pub indeterminate-above : (k : ℕ) → 1 < k → indeterminate k ≡ 𝟘
+  indeterminate-above zero l = absurd (omega arith)
+  indeterminate-above (suc k) l = rw (indeterminate-shift, shift-suc, 𝟙-constant) (constant-above 𝟙 k (omega arith))
 
   pub indeterminate-⊠ : (a : Series A) → indeterminate ⊠ a ≡ shift a
   indeterminate-⊠ a = rw (indeterminate-shift, shift-⊠, 𝟙-⊗)

@@ -1,41 +1,30 @@
--- Newton's step on lists modulo p: h - (g(h) - x) h', cut to n places.
+-- Newton's step on lists modulo p: h - (g(h) - x) h', from the order half to half + rest. The error g(h) - x has no power below half. So the first
+-- half places of h stay, and for the others the product takes rest places of the error, from half on, and rest places of h'.
 --
 --   difference p n a b    a - b, a list of n places
 --   derivative p n h      the derivative of the polynomial h, a list of n places
---   error p n g h         g(h) - x
---   newtonStep p n g h    the step
---   length-difference     a difference has n places
---   newton-reversion      the step takes a reverse series at order k + 1 to one at every order n from 1 to 2k + 1
+--   correction            the product, in which g(h) stands for g(h) - x: they are equal from half > 1 on
+--   newtonStep p half rest g h   the step
+--   newton-reversion      it takes a reverse series at order half to one at order half + rest, if rest is below half
 -- Assumes nothing.
-use Prim.Native.Nat.{ℕ, suc, _+_, _*_, _%_, _<_, _≤_}
+use Prim.Native.Nat.{ℕ, suc, _+_, _*_, _-_, _%_, _<_, _≤_}
+use native.Mathlib.Decide.{decLt}
 use native.Mathlib.Nat.{mod-lt, mod-mod}
 use native.Mathlib.Numerals.{add-one}
 use native.Mathlib.Omega.{arith}
 use mathlib.Core.Bool.{false}
-use mathlib.Core.List.{List}
-use mathlib.Core.Path.{_≡_, _∙_}
-use lib.ListN.{length, take}
-use lib.Seq.{getD-take}
-use Rattle.algebra.specs.Agree.{
-  Agree,
-  agree-difference,
-  agree-neg,
-  agree-refl,
-  agree-trans,
-  agree-weaken,
-  agree-⊞,
-  agree-⊞-vanish,
-  agree-⊠,
-  vanish-multiple,
-  vanish-neg,
-}
-use Rattle.algebra.specs.Bounded.{bounded}
-use Rattle.algebra.specs.Bridge.{identity-listed, cutProduct-listed, residue-series, series-listed, series-of}
-use Rattle.algebra.specs.Composition.{series-composed}
+use mathlib.Core.List.{List, _++_}
+use mathlib.Core.Path.{_≡_, sym, _∙_}
+use lib.ListN.{length, take, drop, length-append, List·getD-append}
+use lib.Seq.{getD-append-add, getD-drop, getD-take, length-take-le}
+use Rattle.algebra.specs.Agree.{Agree, agree-neg, agree-refl, agree-trans, agree-weaken, agree-⊞, agree-⊠}
+use Rattle.algebra.specs.Bounded.{below, bounded}
+use Rattle.algebra.specs.Bridge.{cutProduct-listed, residue-series, series-listed, series-of}
+use Rattle.algebra.specs.Composition.{series-composed, series-constant}
 use Rattle.algebra.specs.Derivative.{derivative-at}
 use Rattle.algebra.specs.Derivative as Derivative
 use Rattle.algebra.specs.Homomorphism.{coefficients-at}
-use Rattle.algebra.specs.Inverse.{reversion-reverse, reverse-reversion, zero-of}
+use Rattle.algebra.specs.Inverse.{reversion-reverse, reverse-reversion}
 use Rattle.algebra.specs.Lists.{coefficient-tabulate, length-tabulate}
 use Rattle.algebra.specs.Residue.{
   Residue,
@@ -49,14 +38,15 @@ use Rattle.algebra.specs.Residue.{
   residues,
   residues-negation,
 }
-use Rattle.algebra.specs.Reversion.{Reverse, newton, newton-cut, reverse-agree}
+use Rattle.algebra.specs.Reversion.{Reverse, newton, newton-cut, newton-window, reverse-agree}
 use Rattle.algebra.specs.Semiring.{Semiring}
 use Rattle.algebra.specs.Series.{Series, indeterminate, neg-at, series-negation, ⊞-at}
 use Rattle.algebra.specs.Substitution.{substitute, substitute-coefficients}
+use Rattle.buffer.specs.Segments.{segment, coefficient-segment}
 use Rattle.definition.specs.KinoshitaLi.{negative}
 use Rattle.definition.specs.Lists.{coefficient, tabulate}
 use Rattle.definition.specs.Refusal.{exceeds}
-use Rattle.definition.specs.Reversion.{Reversion, identity}
+use Rattle.definition.specs.Reversion.{Reversion}
 use Rattle.definition.specs.Substitution.{composed, cutProduct}
 
 unfoldable pub differenceAt : ℕ → List ℕ → List ℕ → ℕ → ℕ
@@ -71,26 +61,16 @@ derivativeAt p h k = (k + 1) * coefficient h (k + 1) % p
 unfoldable pub derivative : ℕ → ℕ → List ℕ → List ℕ
 derivative p n h = tabulate n (derivativeAt p h)
 
-unfoldable pub error : ℕ → ℕ → List ℕ → List ℕ → List ℕ
-error p n g h = difference p n (composed p n g h) (identity n)
+abbrev pub correction : ℕ → ℕ → ℕ → List ℕ → List ℕ → List ℕ
+correction p half rest g h = cutProduct p rest (segment (composed p (half + rest) g h) half rest) (derivative p rest h)
 
-unfoldable pub newtonStep : ℕ → ℕ → List ℕ → List ℕ → List ℕ
-newtonStep p n g h = difference p n h (cutProduct p n (error p n g h) (derivative p n h))
-
-pub length-difference : (p n : ℕ) (a b : List ℕ) → length (difference p n a b) ≡ n
-unfolding difference
-length-difference p n a b = length-tabulate n (differenceAt p a b)
-
-difference-below : {p : ℕ} (n : ℕ) (a b : List ℕ) → 0 < p → exceeds p (difference p n a b) ≡ false
-unfolding difference differenceAt
-difference-below {p} n a b l =
-    bounded p (difference p n a b)
-    (λ i h. rw (coefficient-tabulate n (differenceAt p a b) i (rw (length-difference p n a b) at h)) (mod-lt _ l))
+abbrev pub newtonStep : ℕ → ℕ → ℕ → List ℕ → List ℕ → List ℕ
+newtonStep p half rest g h = take half h ++ difference p rest (drop half h) (correction p half rest g h)
 
 -- these lists as series over the residues
 
 module _ {p : ℕ} (l : 0 < p) where
-  open Semiring (residue-series l) using (_⊕_ as _⊞_, _⊗_ as _⊠_)
+  open Semiring (residue-series l) using (_⊕_ as _⊞_)
 
   abbrev opposite : Series (Residue p) → Series (Residue p)
   opposite = series-negation (residues l) (residues-negation l) .neg
@@ -98,6 +78,9 @@ module _ {p : ℕ} (l : 0 < p) where
   -- the remainder has the residue of the number
   residue-remainder : (a : ℕ) → residue l (a % p) ≡ residue l a
   residue-remainder a = residue-equal l (a % p) a .1 (mod-mod a p)
+
+  series-same : (a b : List ℕ) (i j : ℕ) → coefficient a i ≡ coefficient b j → series-of l a i ≡ series-of l b j
+  series-same a b i j e = rw (coefficients-at (reduction l), coefficients-at (reduction l), e)
 
   series-difference : (n : ℕ) (a b : List ℕ)
       → Agree n (series-of l (difference p n a b)) (series-of l a ⊞ opposite (series-of l b))
@@ -130,58 +113,77 @@ module _ {p : ℕ} (l : 0 < p) where
         coefficients-at (reduction l),
       )
 
-  module _ (above : 1 < p) (n : ℕ) (g h : List ℕ) where
-    series-error : Agree n (series-of l (error p n g h)) (series-of l (composed p n g h) ⊞ opposite (indeterminate (residues l)))
-    unfolding error
-    series-error =
-        agree-trans (series-difference n (composed p n g h) (identity n))
-        (agree-⊞ (residues l) (agree-refl _)
-        (agree-neg (residues l) (residues-negation l)
-        (rw (identity-listed l n above) (series-listed l n (indeterminate (residues l))))))
+  module _ {half : ℕ} (rest : ℕ) (g h : List ℕ) (fits : half ≤ length h) where
+    abbrev value : List ℕ
+    value = composed p (half + rest) g h
 
-    series-newton : Agree n (series-of l (newtonStep p n g h))
-        (newton (residues l) (residues-negation l) (series-of l h) (series-of l (composed p n g h)))
-    unfolding newtonStep
-    series-newton =
-        agree-trans (series-difference n h _)
-        (agree-⊞ (residues l) (agree-refl _)
+    abbrev late : List ℕ
+    late = difference p rest (drop half h) (correction p half rest g h)
+
+    abbrev step : List ℕ
+    step = newtonStep p half rest g h
+
+    size : length (take half h) ≡ half
+    size = length-take-le half h fits
+
+    length-late : length late ≡ rest
+    unfolding difference
+    length-late = length-tabulate rest _
+
+    step-early : (i : ℕ) → i < half → coefficient step i ≡ coefficient (take half h) i
+    unfolding coefficient
+    step-early i b = List·getD-append (take half h) late 0 i (rw size b)
+
+    step-late : (i : ℕ) → coefficient step (half + i) ≡ coefficient late i
+    unfolding coefficient
+    step-late i = rw size at (getD-append-add (take half h) late i 0)
+
+    step-below : exceeds p (take half h) ≡ false → exceeds p step ≡ false
+    unfolding difference differenceAt
+    step-below small = bounded p step (λ i b. at i (rw (length-append, size, length-late) at b) (decLt i half))
+      where
+        at : (i : ℕ) → i < half + rest → Dec (i < half) → coefficient step i < p
+        at i b (yes e) = rw (step-early i e) (below l (take half h) small i)
+        at i b (no e) =
+            let j : i ≡ half + (i - half) = omega arith in
+            rw (j, step-late (i - half), coefficient-tabulate rest _ (i - half) (omega arith)) (mod-lt _ l)
+
+    -- where g(h) is x below half
+    series-step : 1 < half → Agree half (series-of l value) (indeterminate (residues l))
+        → Agree (half + rest) (series-of l step) (newton (residues l) (residues-negation l) (series-of l h) (series-of l value))
+    unfolding coefficient
+    series-step several known =
+        newton-window (residues l) (residues-negation l) several known
+        (λ i b. series-same step h i i (step-early i b ∙ getD-take half h i 0 b))
+        (agree-trans (λ i b. series-same step late (half + i) i (step-late i))
+        (agree-trans (series-difference rest (drop half h) _)
+        (agree-⊞ (residues l) (λ i b. series-same (drop half h) h i (half + i) (getD-drop half h i 0))
         (agree-neg (residues l) (residues-negation l)
         (agree-trans
-        (rw (cutProduct-listed l n (error p n g h) (derivative p n h)) (series-listed l n _))
-        (agree-⊠ (residues l) series-error (series-derivative n h)))))
+        (rw (cutProduct-listed l rest (segment value half rest) (derivative p rest h)) (series-listed l rest _))
+        (agree-⊠ (residues l) (λ i b. series-same (segment value half rest) value i (half + i) (coefficient-segment value half rest i b))
+        (series-derivative rest h)))))))
 
-    -- of h only the first k + 1 places are known to be those of a reverse series
-    pub newton-reversion : {k : ℕ} → 0 < n → n ≤ k + suc k → Reversion p (suc k) g (take (suc k) h)
-        → Reversion p n g (newtonStep p n g h)
-    unfolding newtonStep coefficient
-    newton-reversion {k} positive far r =
-        reverse-reversion l above g (newtonStep p n g h) (length-difference p n h _) below-p
-        (zero-of l above (newtonStep p n g h) below-p 0 constant-free)
-        (newton-cut (residues l) (residues-negation l) known far value-known constant-free series-newton)
+    pub newton-reversion : 1 < p → 1 < half → rest < half → Reversion p half g (take half h) → Reversion p (half + rest) g step
+    unfolding coefficient
+    newton-reversion above several near r =
+        let order : half ≡ suc (half - 1) = omega arith in
+        reverse-reversion l above g step (rw (length-append, size, length-late)) (step-below (r .below)) no-constant
+        (newton-cut (residues l) (residues-negation l) (rw order at known) (omega arith) value-known (series-constant l step no-constant)
+        (series-step several (agree-trans (agree-weaken (omega arith) value-known) (known .reverses))))
       where
-        below-p : exceeds p (newtonStep p n g h) ≡ false
-        below-p = difference-below n h _ l
+        no-constant : coefficient step 0 ≡ 0
+        no-constant = step-early 0 (omega arith) ∙ r .no-constant
 
-        cut : Agree (suc k) (series-of l h) (series-of l (take (suc k) h))
-        cut i b = rw (coefficients-at (reduction l), coefficients-at (reduction l), getD-take (suc k) h i 0 b)
+        cut : Agree half (series-of l h) (series-of l (take half h))
+        cut i b = series-same h (take half h) i i (sym (getD-take half h i 0 b))
 
-        reverse-cut : Reverse (residues l) (suc k) (series-of l g) (series-of l (take (suc k) h))
-        reverse-cut = reversion-reverse l above g (take (suc k) h) r
+        known-cut : Reverse (residues l) half (series-of l g) (series-of l (take half h))
+        known-cut = reversion-reverse l above g (take half h) r
 
-        known : Reverse (residues l) (suc k) (series-of l g) (series-of l h)
-        known = reverse-agree (residues l) (cut 0 (omega arith) ∙ reverse-cut .no-constant) (agree-refl _) cut reverse-cut
+        known : Reverse (residues l) half (series-of l g) (series-of l h)
+        known = reverse-agree (residues l) (cut 0 (omega arith) ∙ known-cut .no-constant) (agree-refl _) cut known-cut
 
-        value-known : Agree n (series-of l (composed p n g h)) (substitute (residues l) (series-of l g) (series-of l h))
-        value-known = rw (substitute-coefficients (reduction l) (series-of l h) (known .no-constant) g) (series-composed l n g h)
-
-        first : Agree 1 (series-of l (composed p n g h)) (indeterminate (residues l))
-        first = agree-trans (agree-weaken (omega arith) value-known) (agree-weaken (omega arith) (known .reverses))
-
-        constant-free : series-of l (newtonStep p n g h) 0 ≡ residues l .𝟘
-        constant-free =
-            series-newton 0 positive
-            ∙ agree-⊞-vanish (residues l) (series-of l h)
-            (vanish-neg (residues l) (residues-negation l)
-            (vanish-multiple (residues l) _ (agree-difference (residues l) (residues-negation l) first)))
-            0 (omega arith)
-            ∙ known .no-constant
+        value-known : Agree (half + rest) (series-of l value) (substitute (residues l) (series-of l g) (series-of l h))
+        value-known =
+            rw (substitute-coefficients (reduction l) (series-of l h) (known .no-constant) g) (series-composed l (half + rest) g h)

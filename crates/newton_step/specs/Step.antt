@@ -1,83 +1,81 @@
 -- Newton's step in the lent buffers.
 --
---   ErrorPut      the contract of `put_error`
---   Stepped       the contract of `step`
---   error-put     g(h) with its place 1 one less is g(h) - x
+--   ValuePut      the contract of `put_value`
+--   StepLent      what `step` requires
+--   Reversed      and what it ensures
+--   value-lent    an outer list that is cut asks for no more work
+--   value-put     and cut to n places it has the same value, where the inner list has no constant term
 --   rule          the places of a difference, with those of w from t on
 --   subtract-next subtract-last   one place more of it is written, and the last
---   step-operands the places of the product of a step
---   stepped       the derivative, the product and the difference after g(h) - x
+--   step-constant-free   what `put_value` requires
+--   step-operands        and what the product does, of factors that begin in the first places
+--   stepped       what `step` leaves, from what its calls leave
 -- Assumes nothing.
-use Prim.Native.Nat.{ℕ, zero, suc, _+_, _*_, _%_, _<_, _≤_}
-use native.Mathlib.Nat.{add-zero, le-refl, mod-mod, mod-self, sub-zero, zero-add, zero-mod}
+use Prim.Native.Nat.{ℕ, _+_, _*_, _-_, _%_, _<_, _≤_, min}
+use native.Mathlib.Decide.{decLe}
+use native.Mathlib.Nat.{le-of-eq, le-refl, min-eq-left, min-eq-right, zero-add}
 use native.Mathlib.Omega.{arith}
-use mathlib.Core.List.{List, [], _∷_}
+use mathlib.Core.List.{List, _++_}
 use mathlib.Core.Logic.{inl}
-use mathlib.Core.Path.{_≡_, refl, ap, _∙_}
-use lib.ListN.{length, getD, set, length-set}
-use lib.Seq.{sets, getD-set-other, getD-set-same, getD-take, take-set-lt}
-use Rattle.algebra.specs.Composition.{length-composed}
-use Rattle.algebra.specs.Lists.{coefficient-tabulate, length-tabulate, table-of}
+use mathlib.Core.Path.{_≡_, sym, _∙_}
+use lib.ListN.{length, getD, set, take, drop, length-drop, length-take}
+use lib.Seq.{sets, getD-take, take-all}
+use Rattle.algebra.specs.Composition.{composed-outer}
+use Rattle.algebra.specs.Lists.{length-tabulate}
 use Rattle.buffer.specs.Filling.{Filling, filling-last, filling-next}
 use Rattle.buffer.specs.Written.{getD-sets-after, sets-whole}
 use Rattle.definition.specs.KinoshitaLi.{negative}
 use Rattle.definition.specs.Lists.{coefficient, tabulate}
 use Rattle.definition.specs.Refusal.{composeWork}
-use Rattle.definition.specs.Reversion.{identity, identityAt}
-use Rattle.definition.specs.Substitution.{composed, composedAt, constant, cutProduct}
-use Rattle.buffer.specs.Segments.{Apart, segment, coefficient-segment, segment-kept}
+use Rattle.definition.specs.Reversion.{Reversion}
+use Rattle.definition.specs.Substitution.{composed, cutProduct}
+use Rattle.buffer.specs.Segments.{Apart, segment, coefficient-segment, segment-kept, segment-segment}
 use Rattle.product.specs.Single.{Multiplied, Operands}
-use Rattle.newton_step.specs.Newton.{derivative, difference, differenceAt, error, newtonStep}
-use Rattle.route.specs.Contract.{Lent, Route}
-use Rattle.route.specs.Within.{Within, segment-sets, within-sets, within-trans}
+use Rattle.newton_step.specs.Newton.{correction, derivative, difference, differenceAt, newton-reversion}
+use Rattle.route.specs.Contract.{Lent, Route, lent-less}
+use Rattle.route.specs.Within.{Within, rest-back, rest-lent, segment-sets, within-sets, within-trans, within-wider}
 
-pub record ErrorPut (p : ℕ) (g h before after : List ℕ) : Type 0 where
-  pub value : segment after 0 (length h) ≡ error p (length h) g h
+pub record ValuePut (p : ℕ) (g h before after : List ℕ) : Type 0 where
+  pub value : segment after 0 (length h) ≡ composed p (length h) g h
   pub within : Within 0 (composeWork (length h) (length g)) before after
 
-pub record Stepped (p : ℕ) (g h h′ before after : List ℕ) : Type 0 where
-  pub value : h′ ≡ newtonStep p (length h) g h
-  pub within : Within 0 (composeWork (length h) (length g)) before after
+pub record StepLent (p half : ℕ) (g h w : List ℕ) : Type 0 where
+  pub above-one : 1 < p
+  pub several : 1 < half
+  pub fits : half ≤ length h
+  pub far : length h < 2 * half
+  pub known : Reversion p half g (take half h)
+  pub lent : Lent p (length h) (length g) (length w)
 
-negative-0 : (p : ℕ) → negative p 0 ≡ 0
-unfolding negative
-negative-0 p = rw (zero-mod, sub-zero) (mod-self p)
+pub record Reversed (p n : ℕ) (g h before after : List ℕ) : Type 0 where
+  pub reverses : Reversion p n g h
+  pub within : Within 0 (composeWork n (length g)) before after
 
--- where x has no coefficient, g(h) - x has that of g(h); at place 1 it is one less
-module _ (p n : ℕ) (g h : List ℕ) where
-  kept-place : (i : ℕ) → i < n → identityAt i ≡ 0
-      → coefficient (composed p n g h) i ≡ differenceAt p (composed p n g h) (identity n) i
-  unfolding composed composedAt identity differenceAt
-  kept-place i b e =
-      rw (coefficient-tabulate n (composedAt p g h) i b, coefficient-tabulate n identityAt i b, e, negative-0, add-zero, mod-mod)
+-- the value
 
-  error-place : 1 < n → set (composed p n g h) 1 ((coefficient (composed p n g h) 1 + negative p 1) % p) ≡ error p n g h
-  unfolding error difference coefficient composed identity identityAt constant differenceAt
-  error-place above = table-of n (differenceAt p s (identity n)) (set s 1 v) (length-set s 1 v ∙ size) at
-    where
-      s : List ℕ
-      s = composed p n g h
+cut-smaller : (n : ℕ) (g : List ℕ) → take (min n (length g)) g ≡ take n g
+cut-smaller n g = at (decLe n (length g))
+  where
+    at : Dec (n ≤ length g) → take (min n (length g)) g ≡ take n g
+    at (yes b) = rw (min-eq-left b)
+    at (no b) = rw (min-eq-right {n = length g} {m = n} (omega arith), take-all (length g) g (le-refl _), take-all n g (omega arith))
 
-      v : ℕ
-      v = (coefficient s 1 + negative p 1) % p
+module _ {p : ℕ} (g h w : List ℕ) (lent : Lent p (length h) (length g) (length w)) (m : ℕ) where
+  few : length (take m g) ≤ length g
+  few = rw length-take (omega arith)
 
-      size : length s ≡ n
-      size = length-composed p n g h
+  pub value-lent : Lent p (length h) (length (take m g)) (length w)
+  value-lent = lent-less (lent .positive) (le-refl (length h)) few lent
 
-      at : (i : ℕ) → i < n → coefficient (set s 1 v) i ≡ differenceAt p s (identity n) i
-      at zero b = getD-set-other s 1 0 v 0 (λ e. omega arith) ∙ kept-place 0 b refl
-      at (suc zero) b = getD-set-same s 1 v 0 (omega (arith, size)) ∙ rw (coefficient-tabulate n identityAt 1 b)
-      at (suc (suc i)) b = getD-set-other s 1 (suc (suc i)) v 0 (λ e. omega arith) ∙ kept-place (suc (suc i)) b refl
-
-module _ {p : ℕ} (g h : List ℕ) {before then : List ℕ} where
-  pub error-put : {weight result v : ℕ} → 1 < length h → Route p (length h) g h weight before then result
-      → v ≡ (getD then 1 0 + negative p 1) % p → ErrorPut p g h before (set then 1 v)
+  pub value-put : {after : List ℕ} {weight result : ℕ} → coefficient h 0 ≡ 0 → m ≡ min (length h) (length g)
+      → Route p (length h) (take m g) h weight w after result → ValuePut p g h w after
   unfolding coefficient
-  error-put {v = v} above route value = record {
+  value-put constant-free cut route = record {
     value =
-        take-set-lt (length h) then 1 v above
-        ∙ rw (value, ← getD-take (length h) then 1 0 above, route .value) (error-place p (length h) g h above);
-    within = within-trans (route .within) (within-sets then 1 (v ∷ []) (omega arith) (omega arith));
+        route .value
+        ∙ composed-outer (lent .modulus) (length h) (take m g) g h constant-free
+        (λ k b. rw (cut, cut-smaller (length h) g) (getD-take (length h) g k 0 b));
+    within = within-wider (le-refl 0) (omega (arith, few)) (route .within);
   }
 
 -- a difference, place by place
@@ -103,56 +101,74 @@ module _ (p t : ℕ) (h w : List ℕ) where
   unfolding difference
   subtract-last filling past = filling-last filling past ∙ sets-whole h (tabulate (length h) rule) (length-tabulate (length h) rule)
 
-pub step-operands : {p n m work : ℕ} {w : List ℕ} → Lent p n m work → length w ≡ work → Operands p n 0 n (2 * n) w
-step-operands {n = n} lent size = record {
-  modulus = lent .modulus;
-  order = omega (arith, lent .order);
-  left = record { source = omega (arith, lent .enough); target = omega (arith, lent .enough); apart = inl (omega arith) };
-  right = record { source = omega (arith, lent .enough); target = omega (arith, lent .enough); apart = inl (omega arith) };
-}
+-- a step
 
--- the derivative, the product and the difference after g(h) - x
-module _ {p : ℕ} (g h : List ℕ) {before w₁ w₂ w₃ h′ : List ℕ} {result : ℕ} where
-  pub stepped : Lent p (length h) (length g) (length before) → ErrorPut p g h before w₁
-      → w₂ ≡ sets w₁ (length h) (derivative p (length h) h)
-      → Multiplied p (length h) 0 (length h) (2 * length h) w₂ w₃ result
-      → h′ ≡ difference p (length h) h (segment w₃ (2 * length h) (length h))
-      → Stepped p g h h′ before w₃
-  unfolding newtonStep derivative cutProduct
-  stepped lent put derived multiplied subtracted = record {
-    value = subtracted ∙ ap (difference p n h) product;
+module _ {p half : ℕ} (g h w : List ℕ) (lent : StepLent p half g h w) where
+  abbrev n : ℕ
+  n = length h
+
+  abbrev rest : ℕ
+  rest = length h - half
+
+  pub step-constant-free : coefficient h 0 ≡ 0
+  unfolding coefficient
+  step-constant-free = sym (getD-take half h 0 0 (omega (arith, lent .several))) ∙ lent .known .no-constant
+
+  part : {a t : ℕ} {v : List ℕ} → a + rest ≤ t → t ≤ 2 * n → length v ≡ length w → Apart v a rest t rest
+  part before few size = record {
+    source = omega (arith, lent .lent .enough);
+    target = omega (arith, lent .lent .enough);
+    apart = inl before;
+  }
+
+  pub step-operands : {a b : ℕ} {v : List ℕ} → a ≤ n → b ≤ n → length v ≡ length w → Operands p rest a b (2 * n) v
+  step-operands left right size = record {
+    modulus = lent .lent .modulus;
+    order = omega (arith, lent .lent .order);
+    left = part (omega arith) (le-refl (2 * n)) size;
+    right = part (omega arith) (le-refl (2 * n)) size;
+  }
+
+  -- l are the places of h from half on, come back
+  pub stepped : {w₁ w₂ w₃ l : List ℕ} {result : ℕ} → ValuePut p g h w w₁ → w₂ ≡ sets w₁ n (derivative p rest h)
+      → Multiplied p rest half n (2 * n) w₂ w₃ result
+      → l ≡ difference p (length (segment h half rest)) (segment h half rest) (segment w₃ (2 * n) (length (segment h half rest)))
+      → Reversed p n g (take half h ++ (l ++ drop rest (drop half h))) w w₃
+  unfolding derivative cutProduct
+  stepped {w₁} {w₂} {w₃} {l} put derived multiplied subtracted = record {
+    reverses =
+        rw (rest-back half h l, subtracted, rest-lent half h, length-drop, product, order)
+        (rw order at
+        (newton-reversion (lent .lent .modulus) rest g h (lent .fits) (lent .above-one) (lent .several) (omega (arith, lent .far)) (lent .known)));
     within = within-trans (put .within) (within-trans within-w₂ within-w₃);
   }
     where
-      n : ℕ
-      n = length h
+      order : half + rest ≡ n
+      order = omega (arith, lent .fits)
 
       within-w₂ : Within 0 (composeWork n (length g)) w₁ w₂
-      within-w₂ = rw derived (within-sets w₁ n (derivative p n h) (omega arith) (rw length-tabulate (omega arith)))
+      within-w₂ = rw derived (within-sets w₁ n (derivative p rest h) (omega arith) (rw length-tabulate (omega arith)))
 
-      size : length w₂ ≡ length before
+      size : length w₂ ≡ length w
       size = within-w₂ .size ∙ put .within .size
 
       within-w₃ : Within 0 (composeWork n (length g)) w₂ w₃
       within-w₃ =
           rw (multiplied .written)
-          (within-sets w₂ (2 * n) (cutProduct p n (segment w₂ 0 n) (segment w₂ n n)) (omega arith) (rw length-tabulate (omega arith)))
+          (within-sets w₂ (2 * n) (cutProduct p rest (segment w₂ half rest) (segment w₂ n rest)) (omega arith) (rw length-tabulate (omega arith)))
 
-      apart : Apart w₁ 0 n n n
-      apart = record {
-        source = omega (arith, put .within .size, lent .enough);
-        target = omega (arith, put .within .size, lent .enough);
-        apart = inl (omega arith);
-      }
+      apart : Apart w₁ half rest n rest
+      apart = part (le-of-eq order) (omega arith) (put .within .size)
 
-      left : segment w₂ 0 n ≡ error p n g h
-      left = rw derived (segment-kept apart (derivative p n h) (rw length-tabulate (le-refl n)) ∙ put .value)
+      left : segment w₂ half rest ≡ segment (composed p (half + rest) g h) half rest
+      left =
+          rw (derived, segment-kept apart (derivative p rest h) (rw length-tabulate (le-refl rest)), order, ← put .value)
+          (sym (rw zero-add at (segment-segment w₁ 0 n half rest (omega arith))))
 
-      right : segment w₂ n n ≡ derivative p n h
-      right = rw derived (segment-sets w₁ n (derivative p n h) n (length-tabulate n _) (apart .target))
+      right : segment w₂ n rest ≡ derivative p rest h
+      right = rw derived (segment-sets w₁ n (derivative p rest h) rest (length-tabulate rest _) (apart .target))
 
-      product : segment w₃ (2 * n) n ≡ cutProduct p n (error p n g h) (derivative p n h)
+      product : segment w₃ (2 * n) rest ≡ correction p half rest g h
       product =
           rw (multiplied .written, left, right)
-          (segment-sets w₂ (2 * n) (cutProduct p n (error p n g h) (derivative p n h)) n (length-tabulate n _)
-          (step-operands {w = w₂} lent size .left .target))
+          (segment-sets w₂ (2 * n) (correction p half rest g h) rest (length-tabulate rest _) (omega (arith, size, lent .lent .enough)))

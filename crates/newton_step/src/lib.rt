@@ -1,32 +1,35 @@
-// Newton's step for a reverse series: h becomes h - (g(h) - x) h' modulo p, cut to its places.
+// Newton's step for a reverse series: from h below the order half to h - (g(h) - x) h' modulo p below n. The error g(h) - x has no power below half,
+// so that the places of h below half stay, and the product is one at the order n - half.
 use field::Field;
 ghost use mathlib.Core.Path.{_≡_};
 ghost use Prim.Native.Nat.{_+_, _<_, _≤_};
 ghost use lib.ListN.{length};
 ghost use lib.Seq.{sets};
+ghost use Rattle.definition.specs.Lists.{coefficient};
 ghost use Rattle.definition.specs.Refusal.{limit};
 ghost use Rattle.buffer.specs.Segments.{segment};
 ghost use Rattle.newton_step.specs.Newton.{derivative, difference};
-ghost use Rattle.newton_step.specs.Step.{ErrorPut, Stepped};
+ghost use Rattle.newton_step.specs.Step.{Reversed, StepLent, ValuePut};
 ghost use Rattle.route.specs.Contract.{Lent};
 
-// Writes g(h) - x modulo p, cut to the places of h, from place 0 of w on.
-fn put_error(p: u32, g: &[u32], h: &[u32], w: &mut [u32])
-    requires { ⌜ (1 < length (now h)) × Lent p (length (now h)) (length (now g)) (length (now w)) ⌝ }
-    ensures { λ _. ⌜ ErrorPut p (now (g .entry)) (now (h .entry)) (now (w .entry)) (now (w .exit)) ⌝ }
+// Writes g(h) modulo p, cut to the places of h, from place 0 of w on. As h has no constant term, no more places of g matter than h has.
+fn put_value(p: u32, g: &[u32], h: &[u32], w: &mut [u32])
+    requires { ⌜ (coefficient (now h) 0 ≡ 0) × Lent p (length (now h)) (length (now g)) (length (now w)) ⌝ }
+    ensures { λ _. ⌜ ValuePut p (now (g .entry)) (now (h .entry)) (now (w .entry)) (now (w .exit)) ⌝ }
 {
-    kinoshita_li::kinoshita_li(p, h.len(), g, h, w);
-    w[1] = Field { modulus: p }.difference(w[1], 1);
+    let n = h.len();
+    let m = number::smaller(n, g.len());
+    kinoshita_li::kinoshita_li(p, n, &g[..m], h, w);
 }
 
-// Writes the derivative of the polynomial h modulo p, as many places as h has, from place t of w on.
-fn put_derivative(p: u32, h: &[u32], w: &mut [u32], t: usize)
-    requires { ⌜ (0 < p) × (length (now h) ≤ limit) × (t + length (now h) ≤ length (now w)) ⌝ }
-    ensures { λ _. ⌜ now (w .exit) ≡ sets (now (w .entry)) t (derivative p (length (now (h .entry))) (now (h .entry))) ⌝ }
+// Writes the first n places of the derivative of h modulo p from place t of w on.
+fn put_derivative(p: u32, n: usize, h: &[u32], w: &mut [u32], t: usize)
+    requires { ⌜ (0 < p) × (n < length (now h)) × (n < limit) × (t + n ≤ length (now w)) ⌝ }
+    ensures { λ _. ⌜ now (w .exit) ≡ sets (now (w .entry)) t (derivative p n (now (h .entry))) ⌝ }
 {
     let mut k = 0;
-    while k < h.len() {
-        w[t + k] = Field { modulus: p }.product((k + 1) as u32, route::place(h, k + 1));
+    while k < n {
+        w[t + k] = Field { modulus: p }.product((k + 1) as u32, h[k + 1]);
         k += 1;
     }
 }
@@ -44,14 +47,16 @@ fn subtract(p: u32, h: &mut [u32], w: &[u32], t: usize)
     }
 }
 
-// Newton's step. The first places of w are used, as many as the composition g(h) is lent.
-pub fn step(p: u32, g: &[u32], h: &mut [u32], w: &mut [u32])
-    requires { ⌜ (1 < length (now h)) × Lent p (length (now h)) (length (now g)) (length (now w)) ⌝ }
-    ensures { λ _. ⌜ Stepped p (now (g .entry)) (now (h .entry)) (now (h .exit)) (now (w .entry)) (now (w .exit)) ⌝ }
+// Newton's step from the order half to n, the count of h. Its places from half on may hold anything. The first places of w are used, as many as the
+// composition g(h) is lent.
+pub fn step(p: u32, half: usize, g: &[u32], h: &mut [u32], w: &mut [u32])
+    requires { ⌜ StepLent p half (now g) (now h) (now w) ⌝ }
+    ensures { λ _. ⌜ Reversed p (length (now (h .entry))) (now (g .entry)) (now (h .exit)) (now (w .entry)) (now (w .exit)) ⌝ }
 {
     let n = h.len();
-    put_error(p, g, h, w);
-    put_derivative(p, h, w, n);
-    product::multiply(p, n, w, 0, n, 2 * n);
-    subtract(p, h, w, 2 * n);
+    let rest = n - half;
+    put_value(p, g, h, w);
+    put_derivative(p, rest, h, w, n);
+    product::multiply(p, rest, w, half, n, 2 * n);
+    subtract(p, &mut h[half..], w, 2 * n);
 }

@@ -23,7 +23,8 @@ use Rattle.definition.specs.Reversion.{Reversion}
 use Rattle.refusal.specs.Answers.{kept-accepted, kept-refused}
 use Rattle.refusal.specs.Bounds.{ReverseBounds, field-lent, reverse-bounds, reverse-nine}
 use Rattle.refusal.specs.Tests.{either-false}
-use Rattle.reversion.specs.Iteration.{Iterated, Reversible}
+use Rattle.newton_step.specs.Step.{Reversed}
+use Rattle.reversion.specs.Iteration.{Reversible}
 use Rattle.route.specs.Within.{cleared-within}
 
 reversible-constant : (n : ℕ) (g : List ℕ) → irreversible n g ≡ false → coefficient g 0 ≡ 0
@@ -65,10 +66,10 @@ module _ (p n : ℕ) (g out work : List ℕ) where
       lent = rw (bounds .output) (field-lent (bounds .field) (bounds .inner) (bounds .enough));
     }
 
-    pub reverse-accepted : {out′ then work′ : List ℕ} {places : ℕ} → Iterated p g (length out) out′ work then
+    pub reverse-accepted : {out′ then work′ : List ℕ} {places : ℕ} → Reversed p (length out) g out′ work then
         → places ≡ composeWork n (length g) → work′ ≡ cleared places then → Reverse p n g out out′ work work′ 0 0
-    reverse-accepted {out′} iterated counted clear =
-        let reversion : Reversion p n g out′ = rw (bounds .output) at (iterated .reverses) in
+    reverse-accepted {out′} reversed counted clear =
+        let reversion : Reversion p n g out′ = rw (bounds .output) at (reversed .reverses) in
         let positive = prime-positive (bounds .field .prime) in
         let above = bounds .field .prime .above-one in
         record {
@@ -80,6 +81,6 @@ module _ (p n : ℕ) (g out work : List ℕ) where
           none = λ nine h r. omega arith;
           refused = λ refused. absurd (refused refl);
           clears =
-              (rw counted at clear) ∙ cleared-within (rw (bounds .output) at (iterated .within))
+              (rw counted at clear) ∙ cleared-within (rw (bounds .output) at (reversed .within))
               ∙ sym (kept-accepted {number = 0} _ work refl);
         }

@@ -1,13 +1,13 @@
 -- Newton's iteration by recursion on the order: a step takes a reverse series at one order to one at every order below its double.
 --
 --   Reversible       what `newton` requires
---   Iterated         the contract of `newton`
---   iterated-start   at order 1 or 2
+--   reversed-start   at order 1 or 2
 --   half-reversible  an order below n, which is more than half of it, has what the iteration requires
 --   step-lent        what the step to n requires after that
---   iterated-step    and what it leaves
+--   reversed-step    and what both leave
 -- Assumes nothing.
-use Prim.Native.Nat.{ℕ, suc, _*_, _-_, _<_, _≤_}
+use Prim.Native.Nat.{ℕ, _*_, _<_, _≤_}
+use native.Mathlib.Nat.{le-refl}
 use native.Mathlib.Omega.{arith}
 use mathlib.Core.Bool.{false}
 use mathlib.Core.List.{List, _++_}
@@ -17,13 +17,11 @@ use lib.ListN.{length, take, drop, length-append, length-drop}
 use lib.Seq.{length-take-le, take-at}
 use Rattle.definition.specs.Lists.{coefficient}
 use Rattle.definition.specs.Prime.{Prime}
-use Rattle.definition.specs.Refusal.{composeWork, exceeds}
-use Rattle.definition.specs.Reversion.{Reversion}
-use Rattle.newton_step.specs.Newton.{newton-reversion}
+use Rattle.definition.specs.Refusal.{exceeds}
+use Rattle.newton_step.specs.Step.{Reversed, StepLent}
 use Rattle.reversion.specs.Start.{started, started-reversion}
-use Rattle.newton_step.specs.Step.{Stepped}
-use Rattle.route.specs.Contract.{Lent}
-use Rattle.route.specs.Within.{Within, within-refl, within-trans, within-wider}
+use Rattle.route.specs.Contract.{Lent, lent-less}
+use Rattle.route.specs.Within.{within-refl, within-trans, within-wider}
 
 pub record Reversible (p : ℕ) (g h w : List ℕ) : Type 0 where
   pub prime : Prime p
@@ -32,13 +30,9 @@ pub record Reversible (p : ℕ) (g h w : List ℕ) : Type 0 where
   pub linear : 1 < length h → coefficient g 1 ≢ 0
   pub lent : Lent p (length h) (length g) (length w)
 
-pub record Iterated (p : ℕ) (g : List ℕ) (n : ℕ) (h before after : List ℕ) : Type 0 where
-  pub reverses : Reversion p n g h
-  pub within : Within 0 (composeWork n (length g)) before after
-
 module _ {p : ℕ} (g h w : List ℕ) (r : Reversible p g h w) where
-  pub iterated-start : {h′ : List ℕ} → length h ≤ 2 → h′ ≡ started p (length h) g → Iterated p g (length h) h′ w w
-  iterated-start few start = record {
+  pub reversed-start : {h′ : List ℕ} → length h ≤ 2 → h′ ≡ started p (length h) g → Reversed p (length h) g h′ w w
+  reversed-start few start = record {
     reverses = rw start (started-reversion (r .prime) g (r .below) (r .constant-free) (length h) (r .lent .positive) few (r .linear));
     within = within-refl 0 _ w;
   }
@@ -54,37 +48,30 @@ module _ {p : ℕ} (g h w : List ℕ) (r : Reversible p g h w) where
       below = r .below;
       constant-free = r .constant-free;
       linear = λ _. r .linear (omega arith);
-      lent = rw size-half record {
-        modulus = r .lent .modulus;
-        positive = omega arith;
-        order = omega (arith, r .lent .order);
-        outer = r .lent .outer;
-        enough = omega (arith, r .lent .enough);
-      };
+      lent = rw size-half (lent-less (omega arith) (omega arith) (le-refl (length g)) (r .lent));
     }
 
-    module _ {v now : List ℕ} (iterated : Iterated p g (length (take half h)) v w now) where
+    module _ {v now : List ℕ} (reversed : Reversed p (length (take half h)) g v w now) where
       size-v : length v ≡ half
-      size-v = iterated .reverses .places ∙ size-half
+      size-v = reversed .reverses .places ∙ size-half
 
       size : length (v ++ drop half h) ≡ length h
       size = rw (length-append, size-v, length-drop) (omega arith)
 
-      pub step-lent : (1 < length (v ++ drop half h)) × Lent p (length (v ++ drop half h)) (length g) (length now)
-      step-lent = rw (size, iterated .within .size) (omega arith, r .lent)
+      pub step-lent : StepLent p half g (v ++ drop half h) now
+      step-lent = record {
+        above-one = r .prime .above-one;
+        several = more;
+        fits = rw size (omega arith);
+        far = rw size far;
+        known = rw (take-at v (drop half h) half size-v) (rw size-half at (reversed .reverses));
+        lent = rw (size, reversed .within .size) (r .lent);
+      }
 
-      pub iterated-step : {h′ now′ : List ℕ} → Stepped p g (v ++ drop half h) h′ now now′ → Iterated p g (length h) h′ w now′
-      iterated-step {h′} stepped = record {
-        reverses =
-            rw ((rw size at (stepped .value)))
-            (newton-reversion (r .lent .modulus) (r .prime .above-one) (length h) g (v ++ drop half h) {k = half - 1}
-            (omega arith) (omega arith) known);
+      pub reversed-step : {h′ now′ : List ℕ} → Reversed p (length (v ++ drop half h)) g h′ now now′ → Reversed p (length h) g h′ w now′
+      reversed-step stepped = record {
+        reverses = rw size at (stepped .reverses);
         within =
-            within-trans (within-wider (omega arith) (rw size-half (omega arith)) (iterated .within))
+            within-trans (within-wider (omega arith) (rw size-half (omega arith)) (reversed .within))
             (rw size at (stepped .within));
       }
-        where
-          known : Reversion p (suc (half - 1)) g (take (suc (half - 1)) (v ++ drop half h))
-          known =
-              let e : suc (half - 1) ≡ half = omega arith in
-              rw (e, take-at v (drop half h) half size-v) (rw size-half at (iterated .reverses))

@@ -4,7 +4,8 @@ use refusal::Answer;
 ghost use mathlib.Core.Path.{_≡_};
 ghost use Prim.Native.Nat.{_<_};
 ghost use Rattle.definition.specs.Calls.{Reverse};
-ghost use Rattle.reversion.specs.Iteration.{Iterated, Reversible};
+ghost use Rattle.newton_step.specs.Step.{Reversed};
+ghost use Rattle.reversion.specs.Iteration.{Reversible};
 ghost use Rattle.reversion.specs.Start.{started};
 ghost use lib.ListN.{length};
 
@@ -23,7 +24,7 @@ fn start(p: u32, g: &[u32], h: &mut [u32])
 // The reverse series below the order n, the count of h: from the one below n / 2 + 1, by a step.
 fn newton(p: u32, g: &[u32], h: &mut [u32], w: &mut [u32])
     requires { ⌜ Reversible p (now g) (now h) (now w) ⌝ }
-    ensures { λ _. ⌜ Iterated p (now (g .entry)) (length (now (h .entry))) (now (h .exit)) (now (w .entry)) (now (w .exit)) ⌝ }
+    ensures { λ _. ⌜ Reversed p (length (now (h .entry))) (now (g .entry)) (now (h .exit)) (now (w .entry)) (now (w .exit)) ⌝ }
 {
     let n = h.len();
     if n <= 2 {
@@ -32,7 +33,7 @@ fn newton(p: u32, g: &[u32], h: &mut [u32], w: &mut [u32])
     }
     let half = n / 2 + 1;
     newton(p, g, &mut h[..half], w);
-    newton_step::step(p, g, h, w);
+    newton_step::step(p, half, g, h, w);
 }
 
 // The reverse series of g: h without constant term such that g(h) is x modulo x^n, in `out`.

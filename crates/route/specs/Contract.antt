@@ -1,6 +1,7 @@
 -- The contract of a route: f(g) modulo x^n at place 0 of the work buffer, with the weight of its rule.
 --
 --   Lent p n m work      what every route requires of the modulus and the order, and of the counts of the outer list and of the work buffer
+--   lent-less            it holds of a smaller order and a shorter outer list too
 --   Route                what every route ensures
 --   Finished             the contract of `finish`
 --   copied-segment       a segment that is copied over a whole list
@@ -33,6 +34,15 @@ pub record Lent (p n m work : ℕ) : Type 0 where
   pub order : n ≤ limit
   pub outer : m ≤ limit
   pub enough : composeWork n m ≤ work
+
+pub lent-less : {p n m work k l : ℕ} → 0 < k → k ≤ n → l ≤ m → Lent p n m work → Lent p k l work
+lent-less positive less short lent = record {
+  modulus = lent .modulus;
+  positive = positive;
+  order = omega (arith, lent .order);
+  outer = omega (arith, lent .outer);
+  enough = omega (arith, lent .enough);
+}
 
 pub record Route (p n : ℕ) (f g : List ℕ) (weight : ℕ) (before after : List ℕ) (result : ℕ) : Type 0 where
   pub value : segment after 0 n ≡ composed p n f g

@@ -2,18 +2,17 @@
 use borrow.Author.Needs.{needs}
 use native.Mathlib.Omega.{arith}
 use Prim.Native.Nat.{_-_}
-use lib.ListN.{length}
-use mathlib.Core.Path.{_∙_}
 use Rattle.buffer.specs.Filling.{Filling, filling-first, filling-last, filling-next}
+use Rattle.definition.specs.Lists.{coefficient}
 use Rattle.newton_step.specs.Newton.{derivative, derivativeAt}
 use Rattle.newton_step.proofs.put_derivative.Statement.{statement}
 use Rattle.newton_step.proofs.put_derivative.Tie as tie
 
 abbrev Inv-loop : tie.InvT-loop
-Inv-loop p h w₀ t k₀ w k = Filling (derivativeAt p h) t (length h) w₀ w k
+Inv-loop p n h w₀ t k₀ w k = Filling (derivativeAt p h) t n w₀ w k
 
 abbrev μ-loop : tie.MeasureT-loop
-μ-loop p h w₀ t k₀ w k = length h - k
+μ-loop p n h w₀ t k₀ w k = n - k
 
 loop-holds : tie.Need-loop-holds Inv-loop μ-loop
 loop-holds c = filling-first _ _ _ _
@@ -24,11 +23,14 @@ add-product c = search needs
 cast-product : tie.Need-cast-product Inv-loop μ-loop
 cast-product c = search needs
 
-add-place : tie.Need-add-place Inv-loop μ-loop
-add-place c = search needs
+add-product-2 : tie.Need-add-product-2 Inv-loop μ-loop
+add-product-2 c = search needs
 
-place-requires : tie.Need-place-requires Inv-loop μ-loop
-place-requires c κs = search needs
+mul-product : tie.Need-mul-product Inv-loop μ-loop
+mul-product c = search needs
+
+shared-slice-read-product : tie.Need-shared-slice-read-product Inv-loop μ-loop
+shared-slice-read-product c = search needs
 
 product-requires : tie.Need-product-requires Inv-loop μ-loop
 product-requires c κs = search needs
@@ -49,10 +51,10 @@ loop-less : tie.Need-loop-less Inv-loop μ-loop
 loop-less c = search needs
 
 loop-again : tie.Need-loop-again Inv-loop μ-loop
-unfolding derivativeAt
+unfolding derivativeAt coefficient
 loop-again c =
     let turn = c .before .before in
-    filling-next (turn .before .loop .inv) (turn .loop-test .taken) (c .product .ensures ∙ rw (c .before .place .ensures))
+    filling-next (turn .before .loop .inv) (turn .loop-test .taken) (c .product .ensures)
 
 same-length : tie.Need-same-length Inv-loop μ-loop
 same-length c = search needs
@@ -70,8 +72,9 @@ put-derivative-spec =
     loop-holds
     add-product
     cast-product
-    add-place
-    place-requires
+    add-product-2
+    mul-product
+    shared-slice-read-product
     product-requires
     add-w
     mul-w

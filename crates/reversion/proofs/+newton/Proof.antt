@@ -7,7 +7,7 @@ use borrow.Fn.PlainCycle.{Measures, is, falls, and}
 use lib.ListN.{length}
 use lib.Seq.{length-take-le}
 use mathlib.Core.Path.{sym}
-use Rattle.reversion.specs.Iteration.{half-reversible, iterated-start, iterated-step, step-lent}
+use Rattle.reversion.specs.Iteration.{half-reversible, reversed-start, reversed-step, step-lent}
 use Rattle.reversion.proofs.newton.Reads as reads
 use Rattle.reversion.proofs.newton.Kinds as kinds
 use Rattle.reversion.proofs.+newton.Lts-newton as lts
@@ -43,7 +43,7 @@ returns : (t : ℕ) → lts.Need-returns (claims t) (operands-at t) reads.Post
 returns t c =
     let test = c .before .before .before .before in
     let begin = test .before .before .before .before in
-    iterated-start (begin .args .g .now) (begin .args .h .now) (begin .args .w .now) (begin .pre .1) (omega (arith, test .if1 .taken))
+    reversed-start (begin .args .g .now) (begin .args .h .now) (begin .args .w .now) (begin .pre .1) (omega (arith, test .if1 .taken))
     (c .before .before .start .ensures)
 
 -- an order above 2
@@ -101,7 +101,7 @@ returns-2 t c =
     let halved = stepped .before .before .before .before .before .before .before in
     let above = halved .before .before .before in
     let start = begin t above in
-    iterated-step (start .args .g .now) (start .args .h .now) (start .args .w .now) (start .pre .1) (several t above) (fits t above) (far t above)
+    reversed-step (start .args .g .now) (start .args .h .now) (start .args .w .now) (start .pre .1) (several t above) (fits t above) (far t above)
     (halved .newton .ensures) (stepped .step .ensures)
 
 pub +newton-spec : {M : Type 1} → statement M
