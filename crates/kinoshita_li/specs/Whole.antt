@@ -32,7 +32,7 @@ use Rattle.route.specs.Contract.{Lent, Route, route-moved}
 use Rattle.route.specs.Table.{written-table}
 use Rattle.route.specs.Within.{Within, segment-sets, within-sets, within-wider}
 use Rattle.levels.specs.Level.{LevelLent, Levelled}
-use Rattle.levels.specs.Space.{level-places, level-rows}
+use Rattle.levels.specs.Space.{first-steep, level-places, level-rows}
 
 pub record FractionLent (p n q : ℕ) (f w : List ℕ) : Type 0 where
   pub modulus : 0 < p
@@ -58,6 +58,7 @@ module _ {p n q : ℕ} {f w : List ℕ} (lent : FractionLent p n q f w) where
     degree = omega (arith, lent);
     low = omega (arith, lent);
     kept = omega (arith, lent);
+    steep = rw (lent .first) (first-steep n (length f) (lent .order));
     work = rw (lent .first, size) (omega (arith, lent, level-places n (length f) (lent .positive) (lent .order) (lent .some)));
   }
 

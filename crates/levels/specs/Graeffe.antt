@@ -4,8 +4,10 @@
 --   parts-length       they do so in every list of that length
 --   denominatorRows    the rows of Q
 --   Graeffe            the contract of `graeffe`
+--   opposite-room      what its product requires
 --   graeffe-written    what it writes meets it
 --   Expanded           the contract of `expand`
+--   spread-room        what its product requires
 --   expanded-written   what it writes meets it
 -- Assumes nothing.
 use Prim.Native.Nat.{ℕ, _+_, _-_, _*_, _^_, _<_, _≤_}
@@ -19,20 +21,29 @@ use lib.Seq.{sets, length-sets}
 use Rattle.algebra.specs.Rows.{length-plane}
 use Rattle.definition.specs.KinoshitaLi.{cutProduct2At, evenPart, opposite, plane, squared, window}
 use Rattle.definition.specs.Lists.{ceilDiv}
+use Rattle.double_product.specs.Opposite.{OppositeRoom}
+use Rattle.double_product.specs.Spread.{SpreadRoom}
+use Rattle.planes.specs.Parity.{oddPart, oddPart-squared}
 use Rattle.product.specs.Double.{productOf}
 use Rattle.product.specs.Planes.{held, held-kept}
 use Rattle.buffer.specs.Segments.{segment, length-segment}
 use Rattle.product.specs.declared.Rows.{Rows}
 use Rattle.route.specs.Within.{Within, within-sets, within-trans, within-wider, segment-sets, segment-within}
-use Rattle.bivariate.specs.Exact.{even-plane, opposite-exact, squared-exact, window-0}
+use Rattle.bivariate.specs.Exact.{even-plane, opposite-exact, squared-exact}
 use Rattle.levels.specs.declared.Layout.{Layout}
 
 pub record Parts (p r : ℕ) (s : Layout) (w : List ℕ) : Type 0 where
   pub modulus : 0 < p
+  pub positive : 0 < r
   pub order : r ≤ 2 ^ 30
   pub half : s .half ≡ ceilDiv r 2
-  pub rows : s .window + s .result .count < 2 ^ 64
-  pub degree : s .product .count < 2 ^ 64
+  pub some : 0 < s .opposite .count
+  pub size : s .opposite .count * ceilDiv r 2 ≤ 4096
+  pub doubled : s .product .count ≤ 2 * s .opposite .count
+  pub results : s .result .count ≤ s .opposite .count
+  pub some-below : 0 < s .below .count
+  pub doubled-below : s .below .count ≤ 2 * s .opposite .count
+  pub window : s .window ≤ 2 ^ 30
   pub few : s .below .count * r ≤ s .product .count * r
   pub denominator : s .opposite .count * r ≤ s .result .at
   pub result : s .result .at + s .result .count * r ≤ s .opposite .at
@@ -44,10 +55,16 @@ pub record Parts (p r : ℕ) (s : Layout) (w : List ℕ) : Type 0 where
 pub parts-length : {p r : ℕ} {s : Layout} {v w : List ℕ} → length v ≡ length w → Parts p r s w → Parts p r s v
 parts-length e o = record {
   modulus = o .modulus;
+  positive = o .positive;
   order = o .order;
   half = o .half;
-  rows = o .rows;
-  degree = o .degree;
+  some = o .some;
+  size = o .size;
+  doubled = o .doubled;
+  results = o .results;
+  some-below = o .some-below;
+  doubled-below = o .doubled-below;
+  window = o .window;
   few = o .few;
   denominator = o .denominator;
   result = o .result;
@@ -98,7 +115,7 @@ module _ {p r : ℕ} {s : Layout} {w : List ℕ} (parts : Parts p r s w) where
   w₁ = sets w (b .at) O
 
   abbrev X : List ℕ
-  X = plane r (x .count) (window 0 (productOf p r a b w₁))
+  X = plane r (x .count) (cutProduct2At p (held r w₁ a) (opposite p (held r w₁ a)))
 
   abbrev w₂ : List ℕ
   w₂ = sets w₁ (x .at) X
@@ -113,7 +130,7 @@ module _ {p r : ℕ} {s : Layout} {w : List ℕ} (parts : Parts p r s w) where
   size-O = length-plane r (a .count) (opposite p Q)
 
   size-X : length X ≡ x .count * r
-  size-X = length-plane r (x .count) (window 0 (productOf p r a b w₁))
+  size-X = length-plane r (x .count) (cutProduct2At p (held r w₁ a) (opposite p (held r w₁ a)))
 
   size-E : length E ≡ x .count * s .half
   size-E = length-plane (s .half) (x .count) (evenPart (held r w₂ x))
@@ -133,8 +150,6 @@ module _ {p r : ℕ} {s : Layout} {w : List ℕ} (parts : Parts p r s w) where
       rw (
         segment-sets w₁ (x .at) X (x .count * r) size-X (rw length-sets (omega (arith, parts))),
         held-a,
-        held-b,
-        window-0,
         parts .half,
       )
       (even-plane r (x .count) (cutProduct2At p Q (opposite p Q)))
@@ -143,6 +158,21 @@ module _ {p r : ℕ} {s : Layout} {w : List ℕ} (parts : Parts p r s w) where
   later =
       within-trans (within-sets w₁ (x .at) X (omega arith) (omega (arith, size-X, parts)))
       (within-sets w₂ (s .rest) E (omega (arith, parts)) (omega (arith, size-E, parts)))
+
+  -- what the product requires, in every list of that length
+  pub opposite-room : {v : List ℕ} → length v ≡ length w → length w < 2 ^ 64 → OppositeRoom p r 0 (a .count) (x .at) (x .count) v
+  opposite-room {v} e small = record {
+    reading = record {
+      modulus = parts .modulus;
+      positive = parts .positive;
+      some = parts .some;
+      source = rw e (omega (arith, parts));
+      fits = rw e small;
+    };
+    target = rw e (omega (arith, parts));
+    order = parts .order;
+    doubled = parts .doubled;
+  }
 
   pub graeffe-written : Graeffe p r s w w₃ (r * x .count)
   graeffe-written = record {
@@ -191,6 +221,30 @@ module _ {p r : ℕ} {s : Layout} {w : List ℕ} (parts : Parts p r s w) where
   held-factor =
       held-kept r w b (record { source = omega (arith, parts); target = omega (arith, parts); apart = inl (parts .opposite) }) S
       (le-of-eq size-S)
+
+  pub spread-room : length w < 2 ^ 64 → SpreadRoom p r (y .at) (y .count) (b .at) (b .count) (s .window) (t .at) (t .count) w₄
+  spread-room small = record {
+    first = record {
+      modulus = parts .modulus;
+      positive = parts .positive;
+      some = parts .some-below;
+      source = rw length-sets (omega (arith, parts));
+      fits = rw length-sets small;
+    };
+    second = record {
+      modulus = parts .modulus;
+      positive = parts .positive;
+      some = parts .some;
+      source = rw length-sets (omega (arith, parts));
+      fits = rw length-sets small;
+    };
+    target = rw length-sets (omega (arith, parts));
+    order = parts .order;
+    few = parts .results;
+    doubled = parts .doubled-below;
+    window = parts .window;
+    odd-zero = λ j i. rw held-y (oddPart-squared (held (s .half) w u) j i);
+  }
 
   pub expanded-written : Expanded p r s w w₅ (r * t .count)
   expanded-written = record {

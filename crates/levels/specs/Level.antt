@@ -9,7 +9,7 @@
 --   level-done   from what they ensure, what the level ensures
 -- Assumes nothing.
 use Prim.Native.Nat.{ℕ, suc, _+_, _-_, _*_, _^_, _<_, _≤_}
-use native.Mathlib.Nat.{mul-add, mul-comm, mul-le-mul-right, mul-one, pow-suc}
+use native.Mathlib.Nat.{add-mul, mul-add, mul-assoc, mul-comm, mul-le-mul-left, mul-le-mul-right, mul-one, one-mul, pow-suc}
 use native.Mathlib.Numerals.{add-one}
 use native.Mathlib.Omega.{arith}
 use mathlib.Core.List.{List, _++_}
@@ -43,6 +43,7 @@ pub record LevelLent (p levels r q d : ℕ) (f w : List ℕ) : Type 0 where
   pub degree : q < length f
   pub low : d < length f
   pub kept : length f ≤ d + (q + 1)
+  pub steep : q * 2 ^ levels ≤ limit
   pub work : levelPlaces levels (length f) r q d ≤ length w
 
 pub record Levelled (p levels r q d : ℕ) (f before after : List ℕ) (result : ℕ) : Type 0 where
@@ -132,14 +133,28 @@ module _ {p levels K r q d : ℕ} {f w : List ℕ} (lent : LevelLent p levels r 
   unfolding layoutOf
   level-room = omega (arith, level-work, level-rows K (length f) (s .half) (s .next) (s .low) half-small)
 
+  size : (q + 1) * ceilDiv r 2 ≤ 4096
+  unfolding layoutOf ceilDiv
+  size =
+      let here : q * (2 ^ K * 2) ≤ 4096 = rw (deeper, pow-suc) at (lent .steep) in
+      let less : q * ceilDiv r 2 ≤ q * 2 ^ K = mul-le-mul-left q half-small in
+      let short : ceilDiv r 2 ≤ 2048 = omega (arith, lent .order) in
+      omega (arith, here, less, short, add-mul q 1 (ceilDiv r 2), one-mul (ceilDiv r 2), mul-assoc q (2 ^ K) 2)
+
   parts : Parts p r s w
   unfolding layoutOf degreeBound
   parts = record {
     modulus = lent .modulus;
+    positive = lent .positive;
     order = omega (arith, lent);
     half = refl;
-    rows = omega (arith, lent);
-    degree = omega (arith, lent);
+    some = omega arith;
+    size = size;
+    doubled = omega (arith, lent);
+    results = omega (arith, lent);
+    some-below = omega (arith, lent);
+    doubled-below = omega (arith, lent);
+    window = omega (arith, lent);
     few = mul-le-mul-right r few;
     denominator = omega arith;
     result = omega arith;
@@ -158,6 +173,13 @@ module _ {p levels K r q d : ℕ} {f w : List ℕ} (lent : LevelLent p levels r 
     places = omega (arith, level-room);
   }
 
+  steep : degreeBound (length f) q * 2 ^ K ≤ limit
+  unfolding degreeBound
+  steep =
+      let here : q * (2 ^ K * 2) ≤ 4096 = rw (deeper, pow-suc) at (lent .steep) in
+      let less : degreeBound (length f) q * 2 ^ K ≤ 2 * q * 2 ^ K = mul-le-mul-right (2 ^ K) (omega arith) in
+      omega (arith, here, less, mul-assoc 2 q (2 ^ K), mul-assoc q (2 ^ K) 2)
+
   next : (v : List ℕ) → length v ≡ length w → LevelLent p K (s .half) (s .next) (s .low) f (drop (s .rest) v)
   unfolding layoutOf ceilDiv degreeBound
   next v size = record {
@@ -169,6 +191,7 @@ module _ {p levels K r q d : ℕ} {f w : List ℕ} (lent : LevelLent p levels r 
     degree = omega (arith, lent);
     low = omega (arith, lent);
     kept = omega (arith, lent);
+    steep = steep;
     work = rw (length-drop, size) (omega (arith, level-work));
   }
 

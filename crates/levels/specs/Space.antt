@@ -3,10 +3,11 @@
 --   levelPlaces K m r q d   the places of K levels from order r on: Q in q + 1 rows of r places, m - d rows of the result, Q(-x, y), and the
 --                           rows of a product; at the last level Q, the quotient and what it is formed with
 --   level-rows              Q and the result lie in them
+--   first-steep             the degree, times two to the number of levels, stays below the limit
 --   level-places            they are at most the work of a composition
 -- Assumes nothing.
 use Prim.Native.Nat.{ℕ, zero, suc, _+_, _-_, _*_, _^_, _<_, _≤_, min}
-use native.Mathlib.Nat.{mul-le-mul-left, mul-le-mul-right, mul-suc, pow-suc}
+use native.Mathlib.Nat.{mul-le-mul-left, mul-le-mul-right, mul-suc, one-mul, pow-le-pow-right, pow-suc}
 use native.Mathlib.Omega.{arith, by-contra}
 use mathlib.Core.Path.{_≡_, refl}
 use Rattle.algebra.specs.Halvings.{halvings-covers, halvings-least}
@@ -44,6 +45,16 @@ module _ (n m : ℕ) (outer : 0 < m) where
             (omega (arith, rw pow-suc at levels)) (omega arith) (omega arith) (omega arith) (omega arith),
       )
 
+few-halvings : (n : ℕ) → n ≤ limit → halvings n ≤ 12
+few-halvings n order = by-contra (halvings n) 12 (λ h. omega (arith, halvings-least n 12 h))
+
+-- twelve levels, the degree at most doubled at each
+pub first-steep : (n m : ℕ) → n ≤ limit → min 1 (m - 1) * 2 ^ halvings n ≤ limit
+first-steep n m order =
+    let power : 2 ^ halvings n ≤ 2 ^ 12 = pow-le-pow-right (omega arith) (few-halvings n order) in
+    let once : min 1 (m - 1) * 2 ^ halvings n ≤ 1 * 2 ^ halvings n = mul-le-mul-right (2 ^ halvings n) (omega arith) in
+    omega (arith, power, once, one-mul (2 ^ halvings n))
+
 pub level-places : (n m : ℕ) → 0 < n → n ≤ limit → 0 < m
     → levelPlaces (halvings n) m n (min 1 (m - 1)) (m - 1) ≤ composeWork n m
 level-places n m positive order outer =
@@ -55,7 +66,7 @@ level-places n m positive order outer =
     )
   where
     few : halvings n ≤ 12
-    few = by-contra (halvings n) 12 (λ h. omega (arith, halvings-least n 12 h))
+    few = few-halvings n order
 
     covered : 2 ^ halvings n ≤ 2 * n
     covered = at (halvings n) refl

@@ -87,7 +87,7 @@ fn graeffe(p: u32, r: usize, w: &mut [u32], s: Layout) -> Weight
         count: b.count,
     };
     bivariate::opposite(p, r, w, a, b.at);
-    let places = product::multiply_rows(p, r, w, a, b, 0, x);
+    let places = product::multiply_opposite(p, r, w, a, x);
     bivariate::even_part(r, s.half, w, x, s.rest);
     places
 }
@@ -102,7 +102,7 @@ fn expand(p: u32, r: usize, w: &mut [u32], s: Layout) -> Weight
     let x = s.product;
     let t = s.result;
     bivariate::squared(s.half, r, w, u, x.at);
-    product::multiply_rows(
+    product::multiply_spread(
         p,
         r,
         w,

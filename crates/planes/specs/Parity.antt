@@ -2,6 +2,7 @@
 --
 --   oddPart a          the odd powers of x, x^i for x^(2 i + 1)
 --   even-first even-next odd-product   the even and the odd part of a product, from products of the parts of its factors
+--   oddPart-squared    a(x^2, y) has no odd powers of x
 --   squared-even squared-odd   those of a(x^2, y) times b
 --   opposite-first opposite-even opposite-odd   those of a(x, y) a(-x, y) modulo p
 -- Assumes nothing.
@@ -84,11 +85,12 @@ evenPart-squared u = fun-ext λ j. fun-ext λ i.
     let f : 2 * i / 2 ≡ i = omega arith in
     rw (e, f)
 
-oddPart-squared : (u : Plane ℕ) → oddPart (squared u) ≡ series S .𝟘
+pub oddPart-squared : (u : Plane ℕ) (j i : ℕ) → oddPart (squared u) j i ≡ 0
 unfolding oddPart squared spread
-oddPart-squared u = fun-ext λ j. fun-ext λ i.
-    let e : (2 * i + 1) % 2 ≡ 1 = omega arith in
-    rw (e, 𝟘-at S, 𝟘-at naturals)
+oddPart-squared u j i = let e : (2 * i + 1) % 2 ≡ 1 = omega arith in rw e
+
+no-odd-part : (u : Plane ℕ) → oddPart (squared u) ≡ series S .𝟘
+no-odd-part u = fun-ext λ j. fun-ext λ i. oddPart-squared u j i ∙ sym (rw (𝟘-at S, 𝟘-at naturals))
 
 zero-product : (b : Plane ℕ) (j i : ℕ) → product2 (series S .𝟘) b j i ≡ 0
 zero-product b j i = rw (product2-series, 𝟘-⊗ (series S), 𝟘-at S, 𝟘-at naturals)
@@ -96,10 +98,10 @@ zero-product b j i = rw (product2-series, 𝟘-⊗ (series S), 𝟘-at S, 𝟘-a
 module _ (u b : Plane ℕ) (j : ℕ) where
   pub squared-even : (i : ℕ) → product2 (squared u) b j (2 * i) ≡ product2 u (evenPart b) j i
   squared-even zero = even-first (squared u) b j ∙ rw evenPart-squared
-  squared-even (suc i) = even-next (squared u) b j i ∙ rw (evenPart-squared, oddPart-squared, zero-product, add-zero)
+  squared-even (suc i) = even-next (squared u) b j i ∙ rw (evenPart-squared, no-odd-part, zero-product, add-zero)
 
   pub squared-odd : (i : ℕ) → product2 (squared u) b j (2 * i + 1) ≡ product2 u (oddPart b) j i
-  squared-odd i = odd-product (squared u) b j i ∙ rw (evenPart-squared, oddPart-squared, zero-product, add-zero)
+  squared-odd i = odd-product (squared u) b j i ∙ rw (evenPart-squared, no-odd-part, zero-product, add-zero)
 
 -- a(x, y) a(-x, y)
 

@@ -1,8 +1,11 @@
 // Cut products modulo p, on parts of one lent buffer. Each gives back the number of places that it is cut to, as a weight, which only this crate
 // makes: a route's weight can then be nothing but a sum of what products gave back.
 ghost use mathlib.Core.Path.{_≡_};
-ghost use Prim.Native.Nat.{_+_, _*_, _<_, _^_};
-ghost use Rattle.product.specs.Double.{MultipliedRow, MultipliedRows, RowOperands};
+ghost use Prim.Native.Nat.{_+_, _*_, _<_, _≤_, _^_};
+ghost use Rattle.definition.specs.Lists.{ceilDiv};
+ghost use Rattle.double_product.specs.Opposite.{OppositeRoom};
+ghost use Rattle.double_product.specs.Spread.{SpreadRoom};
+ghost use Rattle.product.specs.Double.{MultipliedOpposite, MultipliedRows};
 ghost use Rattle.product.specs.Single.{Multiplied, MultipliedAdd, Operands};
 
 // A polynomial in x and y in a buffer: `count` rows, one after the other from place `at` on, row j for y^j. Later rows are zero.
@@ -60,23 +63,22 @@ pub fn multiply(p: u32, n: usize, w: &mut [u32], a: usize, b: usize, t: usize) -
     multiply_add(p, n, w, a, b, t)
 }
 
-// The r places from t on become row j of A B modulo p and below x^r, where A and B stand in rows of r places at a and at b.
-fn multiply_row(p: u32, r: usize, w: &mut [u32], a: Rows, b: Rows, j: usize, t: usize) -> Weight
-    requires { ⌜ RowOperands p r a b t r (now w) × (j + 1 < 2 ^ 64) ⌝ }
-    ensures { λ q. ⌜ MultipliedRow p r a b j t (now (w .entry)) (now (w .exit)) (q .places) ⌝ }
+// The rows at t become the first rows of a(x, y) a(-x, y) modulo p and below x^r, where a stands in rows of r places. Its odd powers of x vanish, and only
+// the even ones are computed.
+pub fn multiply_opposite(p: u32, r: usize, w: &mut [u32], a: Rows, t: Rows) -> Weight
+    requires { ⌜ OppositeRoom p r (a .at) (a .count) (t .at) (t .count) (now w) × (a .count * ceilDiv r 2 ≤ 4096) ⌝ }
+    ensures { λ q. ⌜ MultipliedOpposite p r a t (now (w .entry)) (now (w .exit)) (q .places) ⌝ }
 {
-    buffer::clear_part(w, t, r);
-    let end = number::smaller(j + 1, a.count);
-    let mut l = number::excess(j + 1, b.count);
-    while l < end {
-        multiply_add(p, r, w, a.at + l * r, b.at + (j - l) * r, t);
-        l += 1;
+    double_product::opposite(p, r, w, a.at, a.count, t.at, t.count);
+    let places = r * t.count;
+    Weight {
+        places: places as u64,
     }
-    Weight { places: r as u64 }
 }
 
-// The rows at t become rows low, low + 1 and on of A B modulo p and below x^r, where A and B stand in rows of r places at a and at b.
-pub fn multiply_rows(
+// The rows at t become rows low, low + 1 and on of A B modulo p and below x^r, where A and B stand in rows of r places at a and at b, and A has no
+// odd power of x.
+pub fn multiply_spread(
     p: u32,
     r: usize,
     w: &mut [u32],
@@ -85,14 +87,21 @@ pub fn multiply_rows(
     low: usize,
     t: Rows,
 ) -> Weight
-    requires { ⌜ RowOperands p r a b (t .at) (t .count * r) (now w) × (low + t .count < 2 ^ 64) ⌝ }
+    requires { ⌜ SpreadRoom p r (a .at) (a .count) (b .at) (b .count) low (t .at) (t .count) (now w) × (b .count * ceilDiv r 2 ≤ 4096) ⌝ }
     ensures { λ q. ⌜ MultipliedRows p r a b low t (now (w .entry)) (now (w .exit)) (q .places) ⌝ }
 {
-    let mut k = 0;
-    while k < t.count {
-        multiply_row(p, r, w, a, b, low + k, t.at + k * r);
-        k += 1;
-    }
+    double_product::spread(
+        p,
+        r,
+        w,
+        a.at,
+        a.count,
+        b.at,
+        b.count,
+        low,
+        t.at,
+        t.count,
+    );
     let places = r * t.count;
     Weight {
         places: places as u64,
