@@ -24,7 +24,7 @@ use Rattle.definition.specs.Lists.{ceilDiv}
 use Rattle.grids.specs.Grid.{Clean}
 use Rattle.grids.specs.Parts.{Few, Room, Source, SquarePut, blockPlaces, every}
 use Rattle.planes.specs.Parity.{oddPart, opposite-even, opposite-first, opposite-odd}
-use Rattle.double_product.specs.Places.{Putting, oppositePlace, packedAt, placeOf}
+use Rattle.double_rows.specs.Places.{Putting, oppositePlace, packedAt, placeOf}
 use Rattle.double_product.specs.Rows.{Reading, blocks-few, even-source, every-even, every-odd, odd-source, packed-at, packed-below, rowsAt}
 
 abbrev pub oppositeProduct : ℕ → (ℕ → ℕ → ℕ) → ℕ → ℕ → ℕ

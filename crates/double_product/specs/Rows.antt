@@ -29,7 +29,7 @@ use Rattle.grids.specs.Parts.{Source, blockPlaces, every, packed}
 use Rattle.planes.specs.Products as planes
 use Rattle.planes.specs.Rows.{plane-fits}
 use Rattle.planes.specs.Parity.{oddPart}
-use Rattle.double_product.specs.Places.{packedAt}
+use Rattle.double_rows.specs.Places.{packedAt}
 
 abbrev pub rowsAt : ℕ → List ℕ → ℕ → ℕ → ℕ → ℕ → ℕ
 rowsAt r w at rows = planeAt r (segment w at (rows * r))

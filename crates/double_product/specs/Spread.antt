@@ -27,7 +27,7 @@ use Rattle.grids.specs.Parts.{Few, ProductPut, Room, Source, blockPlaces, every
 use Rattle.planes.specs.Parity.{oddPart, squared-even, squared-odd}
 use Rattle.planes.specs.Products.{product2-agree, product2-comm}
 use Rattle.double_product.specs.Opposite.{Zeros, half-near, half-positive, zeros-clean}
-use Rattle.double_product.specs.Places.{Putting, packedAt, placeOf, spreadPlace}
+use Rattle.double_rows.specs.Places.{Putting, packedAt, placeOf, spreadPlace}
 use Rattle.double_product.specs.Rows.{Reading, blocks-few, even-source, every-even, every-odd, odd-source, packed-at, packed-below, rowsAt, shorter, source-of}
 
 pub record SpreadLists (p side : ℕ) (left right even odd : List ℕ) : Type 0 where

@@ -142,8 +142,15 @@ module _ {p : ℕ} (positive : 0 < p) (w : List ℕ) (g : Grid) {l₀ l : List �
       go : Dec (i < g .count) → Dec (k < g .length) → blocksOf b l i k ≡ gridValue p w g i k
       go (yes h) (yes c) =
           let same : 8 + i * n + k ≡ 8 + (i * n + k) = omega arith in
-          rw (block-at b l i h, coefficient-segment l (8 + i * n) (g .length) k c, same, at i k h (omega arith),
-            block-inside p (g .length) w (g .at + i * g .outer) (g .inner) k c, lt-ltb i (g .count) h, lt-ltb k (g .length) c)
+          rw (
+            block-at b l i h,
+            coefficient-segment l (8 + i * n) (g .length) k c,
+            same,
+            at i k h (omega arith),
+            block-inside p (g .length) w (g .at + i * g .outer) (g .inner) k c,
+            lt-ltb i (g .count) h,
+            lt-ltb k (g .length) c,
+          )
       go (yes h) (no c) =
           rw (block-at b l i h, lt-ltb i (g .count) h, le-ltb k (g .length) (omega arith))
           (coefficient-beyond (segment l (8 + i * n) (g .length)) k (omega (arith, length-segment l (8 + i * n) (g .length))))

@@ -123,7 +123,18 @@ pub fn square(
         count: g.count,
         length: g.length,
     };
-    blocks::multiply(p, true, a, left, a, left, 0, 0, results(turned, m, count), z);
+    blocks::multiply(
+        p,
+        true,
+        a,
+        left,
+        a,
+        left,
+        0,
+        0,
+        results(turned, m, count),
+        z,
+    );
 }
 
 // The first places of z become n places of each of `count` rows, from row `low` on, of the product of two parts: n places of each of the rows, every second

@@ -90,18 +90,7 @@ pub fn multiply_spread(
     requires { ⌜ SpreadRoom p r (a .at) (a .count) (b .at) (b .count) low (t .at) (t .count) (now w) × (b .count * ceilDiv r 2 ≤ 4096) ⌝ }
     ensures { λ q. ⌜ MultipliedRows p r a b low t (now (w .entry)) (now (w .exit)) (q .places) ⌝ }
 {
-    double_product::spread(
-        p,
-        r,
-        w,
-        a.at,
-        a.count,
-        b.at,
-        b.count,
-        low,
-        t.at,
-        t.count,
-    );
+    double_product::spread(p, r, w, a.at, a.count, b.at, b.count, low, t.at, t.count);
     let places = r * t.count;
     Weight {
         places: places as u64,

@@ -220,7 +220,7 @@ more-total {m} {number} {t} total {s} {h} {s′} {h′} es eh = record { kept = 
     at v c b k =
         let share : (c + m) * (2 ^ 32 - 1) ≡ c * (2 ^ 32 - 1) + m * (2 ^ 32 - 1) = add-mul c m (2 ^ 32 - 1) in
         let fits : (h + t .high) % 2 ^ 64 ≡ h + t .high =
-            mod-eq-of-lt (omega (arith, share, k .few, total .few, mul-le-mul-right (2 ^ 32 - 1) b)) in
+        mod-eq-of-lt (omega (arith, share, k .few, total .few, mul-le-mul-right (2 ^ 32 - 1) b)) in
         rw (es, eh, fits) record {
           wraps = rw (k .wraps, total .wraps, ← add-mod);
           lower = omega (arith, k .lower, total .lower);

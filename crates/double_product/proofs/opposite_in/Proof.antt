@@ -10,7 +10,7 @@ rounded-up-requires : tie.Need-rounded-up-requires
 rounded-up-requires c κs = (omega arith, omega (arith, c .before .before .before .before .pre .0 .order))
 
 square-requires : tie.Need-square-requires
-square-requires c κs = 
+square-requires c κs =
     let start = c .before .before .before .before .before .before .before .before in
     let half = c .before .before .before .rounded-up .ensures in
     even-square (start .pre .0) (start .pre .1 .lists) (rw half (start .pre .1 .size)) half refl
@@ -25,7 +25,7 @@ sub-square-2 : tie.Need-sub-square-2
 sub-square-2 c = rw (c .before .before .before .before .before .before .before .before .before .rounded-up .ensures) (half-positive (c .before .before .before .before .before .before .before .before .before .before .before .before .before .before .pre .0 .reading .positive) .0)
 
 square-requires-2 : tie.Need-square-requires-2
-square-requires-2 c κs = 
+square-requires-2 c κs =
     let start = c .before .before .before .before .before .before .before .before .before .before .before .before .before .before .before .before in
     let half = c .before .before .before .before .before .before .before .before .before .before .before .rounded-up .ensures in
     odd-square (start .pre .0) (start .pre .1 .lists) (rw half (start .pre .1 .size)) half refl (c .before .before .before .before .before .before .before .square .ensures .clean) (search needs)
@@ -34,7 +34,7 @@ sub-put : tie.Need-sub-put
 sub-put c = rw (c .before .before .before .before .before .before .before .before .before .before .before .before .before .before .before .before .rounded-up .ensures) (half-positive (c .before .before .before .before .before .before .before .before .before .before .before .before .before .before .before .before .before .before .before .before .before .pre .0 .reading .positive) .0)
 
 put-requires : tie.Need-put-requires
-put-requires c κs = 
+put-requires c κs =
     let start = c .before .before .before .before .before .before .before .before .before .before .before .before .before .before .before .before .before .before .before .before .before .before .before .before in
     let half = c .before .before .before .before .before .before .before .before .before .before .before .before .before .before .before .before .before .before .before .rounded-up .ensures in
     (opposite-putting (start .pre .0) (start .pre .1 .lists) (rw half (start .pre .1 .size)) half refl (c .before .before .before .before .before .before .before .before .before .before .before .before .before .before .before .square .ensures) (c .before .before .before .before .before .before .before .square2 .ensures), start .pre .0 .target)
@@ -52,7 +52,7 @@ same-length-4 : tie.Need-same-length-4
 same-length-4 c = search needs
 
 returns : tie.Need-returns
-returns c = 
+returns c =
     let start = c .before .before .before .before .before .before .before .before .before .before .before .before .before .before .before .before .before .before .before .before .before .before .before .before .before .before .before in
     let half = c .before .before .before .before .before .before .before .before .before .before .before .before .before .before .before .before .before .before .before .before .before .before .rounded-up .ensures in
     opposite-written (start .pre .0) (start .pre .1 .lists) (rw half (start .pre .1 .size)) half refl (c .before .before .before .before .before .before .before .before .before .before .before .before .before .before .before .before .before .before .square .ensures) (c .before .before .before .before .before .before .before .before .before .before .square2 .ensures) (c .before .before .put .ensures)

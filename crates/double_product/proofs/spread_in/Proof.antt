@@ -14,7 +14,7 @@ sub-rest : tie.Need-sub-rest
 sub-rest c = rw (c .rounded-up .ensures) (half-positive (c .before .before .before .before .before .before .pre .0 .first .positive) .1)
 
 product-requires : tie.Need-product-requires
-product-requires c κs = 
+product-requires c κs =
     let start = c .before .before .before .before .before .before .before .before .before .before in
     let half = c .before .before .before .before .rounded-up .ensures in
     even-factors (start .pre .0) (start .pre .1 .lists) (rw half (start .pre .1 .size)) half refl
@@ -23,13 +23,13 @@ add-product : tie.Need-add-product
 add-product c = search needs
 
 product-requires-2 : tie.Need-product-requires-2
-product-requires-2 c κs = 
+product-requires-2 c κs =
     let start = c .before .before .before .before .before .before .before .before .before .before .before .before .before .before .before .before .before .before .before .before .before in
     let half = c .before .before .before .before .before .before .before .before .before .before .before .before .before .before .before .rounded-up .ensures in
     odd-factors (start .pre .0) (start .pre .1 .lists) (rw half (start .pre .1 .size)) half refl (c .before .before .before .before .before .before .before .before .before .before .product .ensures .clean-left) (search needs) (c .before .before .before .before .before .before .before .before .before .before .product .ensures .clean-right) (search needs)
 
 put-requires : tie.Need-put-requires
-put-requires c κs = 
+put-requires c κs =
     let start = c .before .before .before .before .before .before .before .before .before .before .before .before .before .before .before .before .before .before .before .before .before .before .before .before .before .before .before .before .before .before .before in
     let half = c .before .before .before .before .before .before .before .before .before .before .before .before .before .before .before .before .before .before .before .before .before .before .before .before .before .rounded-up .ensures in
     (spread-putting (start .pre .0) (start .pre .1 .lists) (rw half (start .pre .1 .size)) half refl (c .before .before .before .before .before .before .before .before .before .before .before .before .before .before .before .before .before .before .before .before .product .ensures) (c .before .before .before .before .before .before .before .before .before .product2 .ensures), start .pre .0 .target)
@@ -50,7 +50,7 @@ same-length-5 : tie.Need-same-length-5
 same-length-5 c = search needs
 
 returns : tie.Need-returns
-returns c = 
+returns c =
     let start = c .before .before .before .before .before .before .before .before .before .before .before .before .before .before .before .before .before .before .before .before .before .before .before .before .before .before .before .before .before .before .before .before .before .before in
     let half = c .before .before .before .before .before .before .before .before .before .before .before .before .before .before .before .before .before .before .before .before .before .before .before .before .before .before .before .before .rounded-up .ensures in
     spread-written (start .pre .0) (start .pre .1 .lists) (rw half (start .pre .1 .size)) half refl (c .before .before .before .before .before .before .before .before .before .before .before .before .before .before .before .before .before .before .before .before .before .before .before .product .ensures) (c .before .before .before .before .before .before .before .before .before .before .before .before .product2 .ensures) (c .before .before .put .ensures)

@@ -1,10 +1,10 @@
--- `double_product::spread_place` meets its contract. Assumes nothing.
+-- `double_rows::spread_place` meets its contract. Assumes nothing.
 use borrow.Author.Needs.{needs}
 use borrow.Author.Tests.{eq-eqb, ne-eqb}
-use Rattle.double_product.specs.Places.{spreadPlace}
+use Rattle.double_rows.specs.Places.{spreadPlace}
 use mathlib.Core.Path.{sym, _∙_}
-use Rattle.double_product.proofs.spread_place.Statement.{statement}
-use Rattle.double_product.proofs.spread_place.Tie as tie
+use Rattle.double_rows.proofs.spread_place.Statement.{statement}
+use Rattle.double_rows.proofs.spread_place.Tie as tie
 
 packed-requires : tie.Need-packed-requires
 packed-requires c κs = search needs

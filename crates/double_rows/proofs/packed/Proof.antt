@@ -1,10 +1,10 @@
--- `double_product::packed` meets its contract. Assumes nothing.
+-- `double_rows::packed` meets its contract. Assumes nothing.
 use native.Mathlib.Omega.{arith}
 use Rattle.definition.specs.Lists.{coefficient}
-use Rattle.double_product.specs.Places.{packed-column, packed-row, packedAt}
+use Rattle.double_rows.specs.Places.{packed-column, packed-row, packedAt}
 use mathlib.Core.Path.{sym}
-use Rattle.double_product.proofs.packed.Statement.{statement}
-use Rattle.double_product.proofs.packed.Tie as tie
+use Rattle.double_rows.proofs.packed.Statement.{statement}
+use Rattle.double_rows.proofs.packed.Tie as tie
 
 mul-result : tie.Need-mul-result
 mul-result c = record { fits = omega (arith, packed-column (c .before .pre .0), c .before .pre .1, c .before .fits) }

@@ -1,10 +1,9 @@
--- `double_product::place` meets its contract. Assumes nothing.
+-- `double_rows::place` meets its contract. Assumes nothing.
 use native.Mathlib.Omega.{arith}
-
-use Rattle.double_product.specs.Places.{halves-square, placeOf}
+use Rattle.double_rows.specs.Places.{halves-square, placeOf}
 use mathlib.Core.Path.{sym, _∙_}
-use Rattle.double_product.proofs.place.Statement.{statement}
-use Rattle.double_product.proofs.place.Tie as tie
+use Rattle.double_rows.proofs.place.Statement.{statement}
+use Rattle.double_rows.proofs.place.Tie as tie
 
 opposite-place-requires : tie.Need-opposite-place-requires
 opposite-place-requires c κs =

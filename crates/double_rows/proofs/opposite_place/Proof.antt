@@ -1,12 +1,12 @@
--- `double_product::opposite_place` meets its contract. Assumes nothing.
+-- `double_rows::opposite_place` meets its contract. Assumes nothing.
 use borrow.Author.Needs.{needs}
 use native.Mathlib.Omega.{arith}
 use Prim.Native.Nat.{_<_}
 use borrow.Author.Tests.{eq-eqb, ne-eqb}
-use Rattle.double_product.specs.Places.{oppositePlace, packed-residue}
+use Rattle.double_rows.specs.Places.{oppositePlace, packed-residue}
 use mathlib.Core.Path.{sym, _∙_}
-use Rattle.double_product.proofs.opposite_place.Statement.{statement}
-use Rattle.double_product.proofs.opposite_place.Tie as tie
+use Rattle.double_rows.proofs.opposite_place.Statement.{statement}
+use Rattle.double_rows.proofs.opposite_place.Tie as tie
 
 returns : tie.Need-returns
 unfolding oppositePlace
@@ -33,7 +33,7 @@ difference-requires : tie.Need-difference-requires
 difference-requires c κs =
     let start = c .before .before .before .before .before .before in
     let even : c .before .before .packed .result < start .args .p =
-        rw (c .before .before .packed .ensures) (packed-residue _ _ _ _ _ _ (start .pre .0 .even-below)) in
+    rw (c .before .before .packed .ensures) (packed-residue _ _ _ _ _ _ (start .pre .0 .even-below)) in
     let odd : c .packed2 .result < start .args .p = rw (c .packed2 .ensures) (packed-residue _ _ _ _ _ _ (start .pre .0 .odd-below)) in
     (omega arith, omega arith)
 

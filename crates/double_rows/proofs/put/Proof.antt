@@ -1,4 +1,4 @@
--- `double_product::put` meets its contract: the first j rows are written. Assumes nothing.
+-- `double_rows::put` meets its contract: the first j rows are written. Assumes nothing.
 use borrow.Author.Needs.{needs}
 use native.Mathlib.Omega.{arith}
 use Prim.Native.Nat.{_+_, _*_, _-_, _<_, _≤_}
@@ -6,10 +6,10 @@ use lib.ListN.{length}
 use lib.Seq.{sets}
 use Rattle.definition.specs.KinoshitaLi.{plane}
 use Rattle.planes.specs.Rows.{plane-first, plane-fits, plane-next}
-use Rattle.double_product.specs.Places.{placeOf}
+use Rattle.double_rows.specs.Places.{placeOf}
 use mathlib.Core.Path.{_≡_, refl}
-use Rattle.double_product.proofs.put.Statement.{statement}
-use Rattle.double_product.proofs.put.Tie as tie
+use Rattle.double_rows.proofs.put.Statement.{statement}
+use Rattle.double_rows.proofs.put.Tie as tie
 
 abbrev Inv-loop : tie.InvT-loop
 Inv-loop p opposite turned r half rest count even odd w₀ t j₀ w j =

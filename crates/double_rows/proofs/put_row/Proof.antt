@@ -1,11 +1,11 @@
--- `double_product::put_row` meets its contract: after i turns the first i places are written. Assumes nothing.
+-- `double_rows::put_row` meets its contract: after i turns the first i places are written. Assumes nothing.
 use borrow.Author.Needs.{needs}
 use native.Mathlib.Omega.{arith}
 use Prim.Native.Nat.{_-_}
 use Rattle.buffer.specs.Filling.{Filling, filling-first, filling-last, filling-next}
-use Rattle.double_product.specs.Places.{placeOf}
-use Rattle.double_product.proofs.put_row.Statement.{statement}
-use Rattle.double_product.proofs.put_row.Tie as tie
+use Rattle.double_rows.specs.Places.{placeOf}
+use Rattle.double_rows.proofs.put_row.Statement.{statement}
+use Rattle.double_rows.proofs.put_row.Tie as tie
 
 abbrev Inv-loop : tie.InvT-loop
 Inv-loop p opposite turned r half rest count even odd j w₀ t i₀ w i =
