@@ -1,11 +1,13 @@
 //! Each route of the proved library, the opening of a chain and reversion, beside the
 //! straightforward code of the second implementation and beside FLINT, all on the same lists in one
-//! run. The routes of the second implementation make the same products with a remainder after each
-//! term; reversion there goes coefficient by coefficient. FLINT has one composition, which stands
-//! beside each route, and asks for an inner series without constant term, so all are given one. An
-//! opening is little more than a look at the table of primes. Printed are the shortest times and
-//! their ratios; below 1 the library is the quicker one. A picture of them goes to the file that is
-//! named.
+//! run, for a large prime and for two small ones. The routes of the second implementation make the
+//! same products with a remainder after each term; reversion there goes coefficient by coefficient.
+//! FLINT has one composition, which stands beside each route, and asks for an inner series without
+//! constant term, so all are given one. At a prime of the table an opening is little more than a look
+//! at it; a prime outside, of the same size, is opened too, which is trial division. Printed are the
+//! shortest times and their ratios; below 1 the library is the quicker one. After each prime stand
+//! route 4 and reversion the other way round, FLINT's times over the library's. A picture of the
+//! times at the first prime goes to the file that is named.
 
 #[allow(dead_code)]
 #[path = "../second/checks/mod.rs"]
@@ -19,89 +21,131 @@ mod picture;
 #[allow(dead_code)]
 #[path = "../second/plain/mod.rs"]
 mod plain;
+mod summary;
 
 use checks::library::{Library, Plain};
+use checks::support::Case;
 use linked::Linked;
-use measure::{measured, shortest, Row, Timed};
+use measure::{measured, Beside, Row, ABORTS, NONE};
+use plain::primes::TABLE_LENGTH;
 use plain::random::Random;
 use plain::{reversion, routes};
 
-const P: u32 = 2_147_483_647;
-const MODULUS: u64 = P as u64;
+const MODULI: [u64; 3] = [2_147_483_647, 2, 7];
 const ORDERS: [usize; 4] = [64, 256, 1024, 4096];
-/// The last order at which slow computations are measured.
-const SLOW: usize = 1024;
 const ROUTES: [&str; 4] = ["Horner", "ranged", "Bernstein", "Kinoshita and Li"];
 const REVERSION: &str = "reversion";
 
-/// The time and the answer of FLINT, where it is installed.
-fn by_flint(run: impl Fn() -> Option<Vec<u32>>) -> Option<Timed<Vec<u32>>> {
-    run()?;
-    let (time, answer) = shortest(run);
-    Some((time, answer?))
+/// The largest prime below 2^31 that the table doesn't hold, and the name of its row.
+const OUTSIDE: u64 = 2_147_483_237;
+const OPENING_OUTSIDE: &str = "opening 2147483237";
+
+/// The last order at which the second implementation makes n products of n places, or reverses: four
+/// times as many places take 64 times as long.
+const SLOW: usize = 1024;
+
+/// Below this, a list of non-zero coefficients would hold few different ones.
+const SMALL: u64 = 100;
+
+/// The lists of a table's rows at one order: n coefficients each, the last of them not zero, and g
+/// with a reverse. For a small p the others are any, else none is zero.
+fn lists(random: &mut Random, p: u64, n: usize) -> Case {
+    let mut list = || -> Vec<u32> {
+        let least = u64::from(p >= SMALL);
+        let mut list: Vec<u32> = (0..n).map(|_| (least + random.below(p - least)) as u32).collect();
+        list[n - 1] = random.non_zero(p);
+        list
+    };
+    let (f, mut g) = (list(), list());
+    g[0] = 0;
+    g[1] = random.non_zero(p);
+    Case { p, n, f, g }
 }
 
-fn composition(route: u64, n: usize, f: &[u32], g: &[u32], flint: Option<&Timed<Vec<u32>>>) -> Row {
+fn composition(route: u64, case: &Case) -> Row {
+    let Case { p, n, f, g } = case;
+    // where p is below n, route 3 makes few products of n places
+    let quick = *n <= SLOW || route == 4 || route == 3 && *p < *n as u64;
     measured(
         ROUTES[route as usize - 1],
-        n,
-        |out, work| Linked::compose(route, MODULUS, n as u64, f, g, out, work),
-        Some(|| routes::by_number(route, MODULUS, f, g, n)),
-        flint,
+        *n,
+        |out, work| Linked::compose(route, *p, *n as u64, f, g, out, work),
+        quick.then_some(|| routes::by_number(route, *p, f, g, *n)),
+        || flint::compose(*p as u32, f, g, *n).ok_or(NONE),
     )
 }
 
-fn opening(n: usize) -> Row {
+fn opening(call: &'static str, p: u64, n: usize) -> Row {
     let second = || {
         let mut out = vec![0; n];
-        let (_, answer) = Plain::open(MODULUS, n as u64, &mut out);
+        let (_, answer) = Plain::open(p, n as u64, &mut out);
         (out, answer.weight)
     };
-    let library = |out: &mut [u32], _: &mut [u32]| Linked::open(MODULUS, n as u64, out).1;
-    measured("opening", n, library, Some(second), None)
+    let library = |out: &mut [u32], _: &mut [u32]| Linked::open(p, n as u64, out).1;
+    measured(call, n, library, Some(second), || Err(NONE))
 }
 
-fn reversion(n: usize, g: &[u32]) -> Row {
+/// FLINT's reverse, which divides by every number below n, and ends the program where p is one of
+/// them.
+fn reverse_by_flint(p: u64, g: &[u32], n: usize) -> Beside {
+    if p < n as u64 {
+        return Err(ABORTS);
+    }
+    flint::reverse(p as u32, g, n).ok_or(NONE)
+}
+
+fn reversion(case: &Case) -> Row {
+    let Case { p, n, g, .. } = case;
     measured(
         REVERSION,
-        n,
-        |out, work| Linked::reverse(MODULUS, n as u64, g, out, work),
-        (n <= SLOW).then_some(|| (reversion::reverse(MODULUS, g, n), 0)),
-        by_flint(|| flint::reverse(P, g, n)).as_ref(),
+        *n,
+        |out, work| Linked::reverse(*p, *n as u64, g, out, work),
+        (*n <= SLOW).then_some(|| (reversion::reverse(*p, g, *n), 0)),
+        || reverse_by_flint(*p, g, *n),
     )
+}
+
+/// The rows of a prime at one order; each is handed on as it is measured.
+fn rows_at(case: &Case, mut done: impl FnMut(Row)) {
+    for route in 1..=4 {
+        done(composition(route, case));
+    }
+    done(opening("opening", case.p, case.n));
+    if case.p == MODULI[0] {
+        done(opening(OPENING_OUTSIDE, OUTSIDE, case.n));
+    }
+    done(reversion(case));
+}
+
+/// The table of a prime, and what it comes to.
+fn measured_at(random: &mut Random, p: u64) -> Vec<Row> {
+    println!("p = {p}: outer and inner lists of n coefficients, times in milliseconds");
+    println!("{}", Row::HEAD);
+    let mut rows = Vec::new();
+    for n in ORDERS {
+        rows_at(&lists(random, p, n), |row| {
+            println!("{}", row.line());
+            rows.push(row);
+        });
+    }
+    print!("{}", summary::of(p, &rows));
+    println!();
+    rows
 }
 
 fn main() {
-    println!("p = {P}, outer and inner lists of n coefficients, times in milliseconds");
-    println!("{}", Row::HEAD);
-    let mut rows = Vec::new();
-    let mut print = |row: Row| {
-        println!("{}", row.line());
-        rows.push(row);
-    };
+    let outside =
+        (0..TABLE_LENGTH as u64).all(|index| u64::from(Linked::table(index).1) != OUTSIDE);
+    assert!(outside, "the table holds {OUTSIDE}");
     let mut random = Random::new(1);
-    for n in ORDERS {
-        let mut list = || (0..n).map(|_| random.non_zero(MODULUS)).collect::<Vec<u32>>();
-        let (f, mut g) = (list(), list());
-        g[0] = 0;
-        let composed = by_flint(|| flint::compose(P, &f, &g, n));
-        for route in if n <= SLOW { 1..=4 } else { 4..=4 } {
-            print(composition(route, n, &f, &g, composed.as_ref()));
-        }
-        print(opening(n));
-        print(reversion(n, &g));
-    }
-    println!(
-        "The answers of a row are equal. Not measured (-): what would take minutes at n = 4096,"
-    );
-    println!(
-        "which is also why routes 1 to 3 stop at 1024, and FLINT for an opening, which it lacks."
-    );
-    if rows.iter().all(|row| row.flint.is_none()) {
+    let tables = MODULI.map(|p| measured_at(&mut random, p));
+    print!("{}", summary::NOTES);
+    if tables[0].iter().all(|row| row.flint.is_err()) {
         println!("FLINT is not installed: 'make flint' installs it.");
     }
     if let Some(file) = std::env::args().nth(1) {
-        std::fs::write(&file, picture::drawn(&rows)).expect("the picture can be written");
-        println!("picture: {file}");
+        let drawn = picture::drawn(MODULI[0], &tables[0]);
+        std::fs::write(&file, drawn).expect("the picture can be written");
+        println!("picture, p = {}: {file}", MODULI[0]);
     }
 }

@@ -2,7 +2,7 @@
 //! logarithmic, with the same axes in every panel.
 
 use crate::measure::{ratio, Row};
-use crate::{ORDERS, P, REVERSION, ROUTES};
+use crate::{ORDERS, REVERSION, ROUTES};
 use std::fmt::Write;
 
 const COLOURS: [&str; 5] = ["#0072b2", "#c04e00", "#007a5a", "#8a3fa0", "#7a5200"];
@@ -24,7 +24,7 @@ struct Style {
 const STYLES: [Style; 3] = [
     Style { name: "library", dashes: "none", mark: disc, time: |row| Some(row.library) },
     Style { name: "straightforward code", dashes: "9 5", mark: square, time: |row| row.second },
-    Style { name: "FLINT", dashes: "2 5", mark: triangle, time: |row| row.flint },
+    Style { name: "FLINT", dashes: "2 5", mark: triangle, time: |row| row.flint.ok() },
 ];
 
 fn disc(x: f64, y: f64, colour: &str) -> String {
@@ -118,7 +118,7 @@ fn panel(axes: &Axes, call: &str, colour: &str, rows: &[&Row]) -> String {
     let look = format!("font-size='17' font-weight='bold' fill='{colour}'");
     drawn += &text(axes.left, axes.top - 46.0, &look, call);
     let others: [(fn(&Row) -> Option<f64>, &str, f64); 2] =
-        [(Row::to_second, "straightforward", 27.0), (Row::to_flint, "FLINT", 10.0)];
+        [(Row::to_second, "straightforward", 27.0), (|row| row.to_flint().ok(), "FLINT", 10.0)];
     for (to, name, above) in others {
         if let Some(last) = rows.iter().rev().find(|row| to(row).is_some()) {
             let words = format!("{} × {name} at n = {}", ratio(to(last)), last.n);
@@ -154,8 +154,8 @@ fn legend(left: f64, top: f64, with_flint: bool) -> String {
         "Both axes are logarithmic; lower is quicker.",
         "Under each name: the library's time as a",
         "multiple of the others' times; below 1 the",
-        "library is quicker. What takes minutes at",
-        "n = 4096 is not drawn there.",
+        "library is quicker. What takes about a",
+        "minute at n = 4096 is not drawn there.",
         "FLINT has one composition, which stands",
         "in the panel of each route.",
     ];
@@ -166,8 +166,8 @@ fn legend(left: f64, top: f64, with_flint: bool) -> String {
     drawn
 }
 
-/// The whole picture.
-pub fn drawn(rows: &[Row]) -> String {
+/// The whole picture, of the rows at this prime.
+pub fn drawn(p: u64, rows: &[Row]) -> String {
     let calls: Vec<&str> = ROUTES.into_iter().chain([REVERSION]).collect();
     let rows: Vec<&Row> = rows.iter().filter(|row| calls.contains(&row.call)).collect();
     let (least, most) = decades(&rows);
@@ -181,7 +181,7 @@ pub fn drawn(rows: &[Row]) -> String {
          <rect width='{WIDTH}' height='{HEIGHT}' fill='white'/>\n"
     );
     let title = format!(
-        "Milliseconds of a call: lists of n coefficients modulo {P}, shortest of several runs"
+        "Milliseconds of a call: lists of n coefficients modulo {p}, shortest of several runs"
     );
     drawn += &text(30.0, 36.0, "font-size='19' font-weight='bold'", &title);
     for (place, call) in calls.iter().enumerate() {
@@ -194,6 +194,6 @@ pub fn drawn(rows: &[Row]) -> String {
         drawn += &text(x, y, &look, "milliseconds");
     }
     let (left, top) = corner(calls.len());
-    drawn += &legend(left, top, rows.iter().any(|row| row.flint.is_some()));
+    drawn += &legend(left, top, rows.iter().any(|row| row.flint.is_ok()));
     drawn + "</svg>\n"
 }

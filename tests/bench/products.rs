@@ -23,7 +23,7 @@ use linked::Linked;
 use measure::{ratio, shortest, Timed};
 use plain::random::Random;
 use plain::refusals::work_places;
-use std::time::{Duration, Instant};
+use std::time::Instant;
 use straightforward::{by_horner, by_ranged, Constant, RunTime};
 
 const MERSENNE: u64 = 2_147_483_647;
@@ -36,8 +36,6 @@ const RANGED_ORDERS: [usize; 4] = [64, 256, 1024, 4096];
 const REPEATED: usize = 1024;
 /// How often runs are measured in turn.
 const ROUNDS: usize = 3;
-/// Runs that are measured together take this long at least, since reading the clock takes time too.
-const BATCH: Duration = Duration::from_micros(100);
 
 const ANSWERS: &str = "The answers of a row are equal.";
 
@@ -77,24 +75,6 @@ fn by_library(route: u64, case: &Case) -> impl FnMut() -> Vec<u32> + '_ {
 /// A run that gives a list.
 type Run<'a> = Box<dyn FnMut() -> Vec<u32> + 'a>;
 
-/// As `shortest`, of runs that may be too short to be measured one by one.
-fn shortest_of_batches(run: &mut Run) -> Timed<Vec<u32>> {
-    let mut count = 1;
-    loop {
-        let start = Instant::now();
-        (0..count).for_each(|_| drop(run()));
-        if start.elapsed() >= BATCH {
-            break;
-        }
-        count *= 2;
-    }
-    let (time, answer) = shortest(|| {
-        (1..count).for_each(|_| drop(run()));
-        run()
-    });
-    (time / f64::from(count), answer)
-}
-
 /// The milliseconds of each run, which must give the same. They are measured in turn, several
 /// times, so that what else the machine does falls on all of them.
 fn times<'a>(
@@ -133,7 +113,7 @@ fn horner_times(case: &Case) -> Vec<f64> {
     if flint::horner(word, f, g, *n).is_some() {
         runs.push(Box::new(move || flint::horner(word, f, g, *n).expect("FLINT is installed")));
     }
-    times(ROUNDS, runs, shortest_of_batches)
+    times(ROUNDS, runs, |run| shortest(run))
 }
 
 /// A row of cut products; gives back whether FLINT is part of it.

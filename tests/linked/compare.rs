@@ -18,17 +18,28 @@ fn answered(tally: &mut Tally, call: Call, input: &Input, value: &[u32], weight:
     out
 }
 
-/// As `answered`, with a work buffer that is lent here.
-fn accepted(
+/// What a compose by this route is given, with dirty buffers.
+fn compose_input(random: &mut Random, route: u64, case: &Case) -> Input {
+    let Case { p, n, f, g } = case;
+    let (outer, inner, out) = (f.clone(), g.clone(), random.buffer(*n));
+    let mut input = Input { route, p: *p, n: *n as u64, outer, inner, out, ..Input::default() };
+    input.lend(random, Call::Compose);
+    input
+}
+
+/// An accepted compose by this route with this weight, whose output the caller judges.
+pub fn composed_by(
     tally: &mut Tally,
     random: &mut Random,
-    call: Call,
-    mut input: Input,
-    value: &[u32],
+    route: u64,
+    case: &Case,
     weight: u64,
 ) -> Vec<u32> {
-    input.lend(random, call);
-    answered(tally, call, &input, value, weight)
+    let input = compose_input(random, route, case);
+    let left = Call::Compose.make::<Linked>(&input);
+    let out = left.out.clone();
+    tally.equal(&input, left, Call::Compose.accepted(&input, out.clone(), weight));
+    out
 }
 
 /// An accepted compose by this route.
@@ -40,10 +51,8 @@ pub fn composed(
     value: &[u32],
     weight: u64,
 ) -> Vec<u32> {
-    let Case { p, n, f, g } = case;
-    let (outer, inner, out) = (f.clone(), g.clone(), random.buffer(*n));
-    let input = Input { route, p: *p, n: *n as u64, outer, inner, out, ..Input::default() };
-    accepted(tally, random, Call::Compose, input, value, weight)
+    let input = compose_input(random, route, case);
+    answered(tally, Call::Compose, &input, value, weight)
 }
 
 /// An accepted compose by this route; before it every place of the output and of work, which is one
@@ -73,8 +82,9 @@ pub fn reversed(
     value: &[u32],
 ) -> Vec<u32> {
     let (inner, out) = (g.to_vec(), random.buffer(n));
-    let input = Input { p, n: n as u64, inner, out, ..Input::default() };
-    accepted(tally, random, Call::Reverse, input, value, 0)
+    let mut input = Input { p, n: n as u64, inner, out, ..Input::default() };
+    input.lend(random, Call::Reverse);
+    answered(tally, Call::Reverse, &input, value, 0)
 }
 
 /// Any call, against the second implementation; it is answered by this number, and a refused one

@@ -3,12 +3,14 @@
 //! call; and the job program, run on files. The checks that the second implementation makes of
 //! itself are made of them too. The seed of the random cases is the first argument.
 
+mod agreement;
 mod chain;
 #[allow(dead_code)]
 #[path = "../second/checks/mod.rs"]
 mod checks;
 mod compare;
 mod linked;
+mod orders;
 #[allow(dead_code)]
 #[path = "../second/plain/mod.rs"]
 mod plain;
@@ -27,7 +29,7 @@ use compare::Both;
 use program::Built;
 use std::process::ExitCode;
 
-const GROUPS: [(&str, Check); 56] = [
+const GROUPS: [(&str, Check); 59] = [
     ("settled examples", settled::examples::<Both>),
     ("edges", settled::edges::<Both>),
     ("every small shape", shapes::every_small),
@@ -38,6 +40,9 @@ const GROUPS: [(&str, Check); 56] = [
     ("primes above 2^31", shapes::large_primes),
     ("primes above 2^31, largest coefficients", shapes::largest_coefficients),
     ("primes above 2^31, largest coefficients, large orders", shapes::largest_coefficients_closed),
+    ("orders around powers of 2 up to 257, short and long outer lists", orders::small),
+    ("orders around powers of 2 up to 1025, short and long outer lists", orders::large),
+    ("four routes alike, 20000 draws up to 200", agreement::four_routes),
     ("products: every order up to 300", products::every_order),
     ("products: around each size where the method changes", products::around_changes),
     ("products: the largest orders", products::largest_orders),

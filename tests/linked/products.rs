@@ -11,7 +11,7 @@ use crate::plain::primes::LARGEST_PRIME;
 use crate::plain::products::{places, product};
 use crate::plain::random::Random;
 
-const MODULI: [u64; 8] =
+pub const MODULI: [u64; 8] =
     [2, 3, 65_537, 1_073_741_789, 1_073_741_827, 2_147_483_647, 2_147_483_659, LARGEST_PRIME];
 const EVERY_ORDER: usize = 300;
 
