@@ -63,6 +63,17 @@ pub fn multiply(p: u32, n: usize, w: &mut [u32], a: usize, b: usize, t: usize) -
     multiply_add(p, n, w, a, b, t)
 }
 
+// The places of the rows at t, r in each.
+fn places_of(r: usize, t: Rows) -> Weight
+    requires { ⌜ r * t .count < 2 ^ 64 ⌝ }
+    ensures { λ q. ⌜ q .places ≡ r * t .count ⌝ }
+{
+    let places = r * t.count;
+    Weight {
+        places: places as u64,
+    }
+}
+
 // The rows at t become the first rows of a(x, y) a(-x, y) modulo p and below x^r, where a stands in rows of r places. Its odd powers of x vanish, and only
 // the even ones are computed.
 pub fn multiply_opposite(p: u32, r: usize, w: &mut [u32], a: Rows, t: Rows) -> Weight
@@ -70,10 +81,7 @@ pub fn multiply_opposite(p: u32, r: usize, w: &mut [u32], a: Rows, t: Rows) -> W
     ensures { λ q. ⌜ MultipliedOpposite p r a t (now (w .entry)) (now (w .exit)) (q .places) ⌝ }
 {
     double_product::opposite(p, r, w, a.at, a.count, t.at, t.count);
-    let places = r * t.count;
-    Weight {
-        places: places as u64,
-    }
+    places_of(r, t)
 }
 
 // The rows at t become rows low, low + 1 and on of A B modulo p and below x^r, where A and B stand in rows of r places at a and at b, and A has no
@@ -91,8 +99,5 @@ pub fn multiply_spread(
     ensures { λ q. ⌜ MultipliedRows p r a b low t (now (w .entry)) (now (w .exit)) (q .places) ⌝ }
 {
     double_product::spread(p, r, w, a.at, a.count, b.at, b.count, low, t.at, t.count);
-    let places = r * t.count;
-    Weight {
-        places: places as u64,
-    }
+    places_of(r, t)
 }
