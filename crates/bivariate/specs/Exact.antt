@@ -4,7 +4,6 @@
 --   opposite-exact     so with a(-x, y), in the rows of a
 --   squared-exact      and with a(x^2, y), in rows of r places for the a in rows of ⌈r/2⌉
 --   even-plane         the even part, below x^⌈r/2⌉, of what is held below x^r
---   window-0           the powers of y from 0 on
 --   window-places      the places of the rows before l and of those from l on
 --   window-segment     the powers of y from l on, of the rows of a list, are a part of the list
 --   planeAt-column     in rows of one place
@@ -85,10 +84,6 @@ pub even-plane : (r c : ℕ) (a : ℕ → ℕ → ℕ)
     → plane (ceilDiv r 2) c (evenPart (planeAt r (plane r c a))) ≡ plane (ceilDiv r 2) c (evenPart a)
 unfolding evenPart ceilDiv
 even-plane r c a = plane-agree (ceilDiv r 2) c (λ j b i d. planeAt-plane r c a j b (2 * i) (omega arith))
-
-pub window-0 : (a : ℕ → ℕ → ℕ) → window 0 a ≡ a
-unfolding window
-window-0 a = fun-ext λ j. ap a (zero-add j)
 
 pub window-places : (r l c : ℕ) → l ≤ c → l * r + (c - l) * r ≡ c * r
 window-places r l c few = let e : l + (c - l) ≡ c = omega arith in sym (add-mul l (c - l) r) ∙ rw e

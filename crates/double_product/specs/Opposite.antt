@@ -8,7 +8,6 @@
 --   opposite-written       and what it leaves
 -- Assumes nothing.
 use Prim.Native.Nat.{ℕ, zero, suc, _+_, _-_, _*_, _/_, _%_, _<_, _≤_, _^_}
-use native.Mathlib.Decide.{decLt}
 use native.Mathlib.Nat.{le-refl, mod-lt, mul-assoc, mul-le-mul, mul-le-mul-left, mul-le-mul-right, mul-one, one-mul}
 use native.Mathlib.Omega.{arith}
 use borrow.Author.Tests.{eq-eqb, ne-eqb}
@@ -16,13 +15,14 @@ use mathlib.Core.Bool.{Bool, true, true≢false}
 use mathlib.Core.List.{List}
 use mathlib.Core.Path.{_≡_, refl, sym, ap, _∙_}
 use lib.Dec.{ltb}
-use lib.ListN.{length, getD, replicate, length-replicate, getD-replicate, List·getD-eq-default}
+use lib.ListN.{length, getD}
 use lib.Seq.{sets, length-sets}
 use Rattle.algebra.specs.Rows.{plane-agree}
 use Rattle.definition.specs.KinoshitaLi.{cutProduct2At, evenPart, opposite, plane}
 use Rattle.definition.specs.Lists.{ceilDiv}
 use Rattle.grids.specs.Grid.{Clean}
 use Rattle.grids.specs.Parts.{Few, Room, Source, SquarePut, blockPlaces, every}
+use Rattle.summed_product.specs.Zeros.{Zeros}
 use Rattle.planes.specs.Parity.{oddPart, opposite-even, opposite-first, opposite-odd}
 use Rattle.double_rows.specs.Places.{Putting, oppositePlace, packedAt, placeOf}
 use Rattle.double_product.specs.Rows.{Reading, blocks-few, even-source, every-even, every-odd, odd-source, packed-at, packed-below, rowsAt}
@@ -185,18 +185,6 @@ module _ {p r at rows t count : ℕ} {w : List ℕ} (room : OppositeRoom p r at 
     pub opposite-written : {w′ : List ℕ} → w′ ≡ sets w t (plane r count (placeOf p true turned half (half - 1) count even′ odd′))
         → w′ ≡ sets w t (plane r count (oppositeProduct p Q))
     opposite-written e = e ∙ ap (sets w t) (plane-agree r count place-at)
-
--- a list of zeros, as a local list is made
-pub record Zeros (n : ℕ) (l : List ℕ) : Type 0 where
-  pub size : length l ≡ n
-  pub blank : (k : ℕ) → getD l k 0 ≡ 0
-
-pub zeros : (n : ℕ) → Zeros n (replicate n 0)
-zeros n = record { size = length-replicate n 0; blank = λ k. at k (decLt k n) }
-  where
-    at : (k : ℕ) → Dec (k < n) → getD {A = ℕ} (replicate n 0) k 0 ≡ 0
-    at k (yes b) = getD-replicate n k 0 0 b
-    at k (no b) = List·getD-eq-default (replicate n 0) 0 (rw length-replicate (omega arith))
 
 pub zeros-clean : {p n : ℕ} {l : List ℕ} → 0 < p → Zeros n l → Clean p l
 zeros-clean positive z = record {

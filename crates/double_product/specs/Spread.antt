@@ -24,9 +24,10 @@ use Rattle.definition.specs.KinoshitaLi.{cutProduct2At, evenPart, plane, produc
 use Rattle.definition.specs.Lists.{ceilDiv}
 use Rattle.grids.specs.Grid.{Clean}
 use Rattle.grids.specs.Parts.{Few, ProductPut, Room, Source, blockPlaces, every}
+use Rattle.summed_product.specs.Zeros.{Zeros}
 use Rattle.planes.specs.Parity.{oddPart, squared-even, squared-odd}
 use Rattle.planes.specs.Products.{product2-agree, product2-comm}
-use Rattle.double_product.specs.Opposite.{Zeros, half-near, half-positive, zeros-clean}
+use Rattle.double_product.specs.Opposite.{half-near, half-positive, zeros-clean}
 use Rattle.double_rows.specs.Places.{Putting, packedAt, placeOf, spreadPlace}
 use Rattle.double_product.specs.Rows.{Reading, blocks-few, even-source, every-even, every-odd, odd-source, packed-at, packed-below, rowsAt, shorter, source-of}
 

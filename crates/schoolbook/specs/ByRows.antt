@@ -3,28 +3,28 @@
 --   residueList p n x     the first n places of x modulo p, residueAt at each place
 --   length-residueList residue-below   they are n residues
 --   product-residues      a product of two lists modulo p is that of their residues
---   Zeros c zs            zeros, as a local list is made (zeros-replicate)
 --   read-padded read-below read-values   a list read into zeros
 --   cut-pair              two of them are factors of a product by rows
 --   cut-small cut-remainders   and the remainders of its sums are the product
 -- Assumes nothing.
-use Prim.Native.Nat.{ℕ, suc, _+_, _-_, _*_, _%_, _<_, _≤_, _^_}
+use Prim.Native.Nat.{ℕ, _+_, _-_, _%_, _<_, _≤_}
 use native.Mathlib.Decide.{decLt}
-use native.Mathlib.Nat.{le-refl, mod-lt, mul-le-mul, zero-add}
+use native.Mathlib.Nat.{mod-lt, zero-add}
 use native.Mathlib.Omega.{arith}
 use mathlib.Core.Path.{_≡_, sym, ap, _∙_}
 use mathlib.Core.List.{List}
-use lib.ListN.{length, getD, replicate, length-replicate, getD-replicate, List·getD-eq-default}
+use lib.ListN.{length, getD}
 use lib.Seq.{sets, length-sets}
 use Rattle.algebra.specs.Agree.{agree-⊠}
 use Rattle.algebra.specs.Bridge.{listed-agree, reduced-listed, series-listed, series-of, cutProduct-listed}
-use Rattle.algebra.specs.Lists.{coefficient-tabulate, length-tabulate, sum-cong, tabulate-cong}
+use Rattle.algebra.specs.Lists.{coefficient-tabulate, length-tabulate}
 use Rattle.algebra.specs.Residue.{residues}
 use Rattle.buffer.specs.Written.{getD-sets-inside, getD-sets-other, part-sets}
-use Rattle.definition.specs.Lists.{sum, tabulate, coefficient}
-use Rattle.definition.specs.Substitution.{product, productTerm, cutProduct, cutProductAt}
+use Rattle.definition.specs.Lists.{tabulate, coefficient}
+use Rattle.definition.specs.Substitution.{product, cutProduct, cutProductAt}
 use Rattle.remainder.specs.Sums.{Small, remainderList}
 use Rattle.rows.specs.Rows.{Below}
+use Rattle.summed_product.specs.Zeros.{Zeros}
 use Rattle.summed_product.specs.Sums.{Sums, sums-added, sums-none, sums-remainders, sums-small}
 use Rattle.summed_product.specs.Terms.{Added, Padded, Pair, productOf, values}
 use Rattle.summed_product.specs.declared.Part.{Part}
@@ -42,17 +42,6 @@ product-residues {p} l n x y =
     (cutProduct-listed l n _ _
     ∙ listed-agree (agree-⊠ (residues l) (series-listed l n (series-of l x)) (series-listed l n (series-of l y)))
     ∙ sym (cutProduct-listed l n x y))
-
-pub record Zeros (c : ℕ) (zs : List ℕ) : Type 0 where
-  pub size : length zs ≡ c
-  pub blank : (j : ℕ) → getD zs j 0 ≡ 0
-
-pub zeros-replicate : (c : ℕ) → Zeros c (replicate c 0)
-zeros-replicate c = record { size = length-replicate c 0; blank = λ j. at j (decLt j c) }
-  where
-    at : (j : ℕ) → Dec (j < c) → getD {A = ℕ} (replicate c 0) j 0 ≡ 0
-    at j (yes b) = getD-replicate c j 0 0 b
-    at j (no b) = List·getD-eq-default (replicate c 0) 0 (rw length-replicate (omega arith))
 
 -- a list vs written into zeros
 module _ {c : ℕ} {zs : List ℕ} (z : Zeros c zs) (at : ℕ) (vs : List ℕ) (fits : at + length vs ≤ c) where

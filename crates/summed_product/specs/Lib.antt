@@ -2,5 +2,7 @@
 --
 --   Terms   the terms of such a product, eight rows at a time
 --   Sums    what the sums keep, and its remainders
+--   Zeros   lists of zeros
 pub mod Terms
 pub mod Sums
+pub mod Zeros

@@ -1,7 +1,8 @@
 -- `double_product::opposite_large` meets its contract. Assumes nothing.
 use borrow.Author.Needs.{needs}
 use native.Mathlib.Omega.{arith}
-use Rattle.double_product.specs.Opposite.{sized, zeros}
+use Rattle.double_product.specs.Opposite.{sized}
+use Rattle.summed_product.specs.Zeros.{zeros-replicate}
 use Rattle.double_product.proofs.opposite_large.Statement.{statement}
 use Rattle.double_product.proofs.opposite_large.Tie as tie
 
@@ -17,7 +18,7 @@ slice-aggregate-opposite-in-3 c = search needs
 opposite-in-requires : tie.Need-opposite-in-requires
 opposite-in-requires c κs =
     let start = c .before .before .before .before .before in
-    (start .pre .0, sized (start .pre .0 .reading .modulus) _ _ 64 (omega arith) (start .pre .1) (zeros 4616) (zeros 8192) (zeros 8192))
+    (start .pre .0, sized (start .pre .0 .reading .modulus) _ _ 64 (omega arith) (start .pre .1) (zeros-replicate 4616) (zeros-replicate 8192) (zeros-replicate 8192))
 
 same-length : tie.Need-same-length
 same-length c = search needs

@@ -1,7 +1,7 @@
 -- `double_product::spread_large` meets its contract. Assumes nothing.
 use borrow.Author.Needs.{needs}
 use native.Mathlib.Omega.{arith}
-use Rattle.double_product.specs.Opposite.{zeros}
+use Rattle.summed_product.specs.Zeros.{zeros-replicate}
 use Rattle.double_product.specs.Spread.{spread-sized}
 use Rattle.double_product.proofs.spread_large.Statement.{statement}
 use Rattle.double_product.proofs.spread_large.Tie as tie
@@ -21,7 +21,7 @@ slice-aggregate-spread-in-4 c = search needs
 spread-in-requires : tie.Need-spread-in-requires
 spread-in-requires c κs =
     let start = c .before .before .before .before .before .before in
-    (start .pre .0, spread-sized (start .pre .0 .first .modulus) _ _ 64 (omega arith) (start .pre .1) (zeros 4616) (zeros 9224) (zeros 4096) (zeros 4096))
+    (start .pre .0, spread-sized (start .pre .0 .first .modulus) _ _ 64 (omega arith) (start .pre .1) (zeros-replicate 4616) (zeros-replicate 9224) (zeros-replicate 4096) (zeros-replicate 4096))
 
 same-length : tie.Need-same-length
 same-length c = search needs

@@ -1,7 +1,7 @@
 -- `double_product::spread_small` meets its contract. Assumes nothing.
 use borrow.Author.Needs.{needs}
 use native.Mathlib.Omega.{arith}
-use Rattle.double_product.specs.Opposite.{zeros}
+use Rattle.summed_product.specs.Zeros.{zeros-replicate}
 use Rattle.double_product.specs.Spread.{spread-sized}
 use Rattle.double_product.proofs.spread_small.Statement.{statement}
 use Rattle.double_product.proofs.spread_small.Tie as tie
@@ -21,7 +21,7 @@ slice-aggregate-spread-in-4 c = search needs
 spread-in-requires : tie.Need-spread-in-requires
 spread-in-requires c κs =
     let start = c .before .before .before .before .before .before in
-    (start .pre .0, spread-sized (start .pre .0 .first .modulus) _ _ 16 (omega arith) (start .pre .1) (zeros 392) (zeros 776) (zeros 256) (zeros 256))
+    (start .pre .0, spread-sized (start .pre .0 .first .modulus) _ _ 16 (omega arith) (start .pre .1) (zeros-replicate 392) (zeros-replicate 776) (zeros-replicate 256) (zeros-replicate 256))
 
 same-length : tie.Need-same-length
 same-length c = search needs

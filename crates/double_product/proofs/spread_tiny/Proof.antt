@@ -1,7 +1,7 @@
 -- `double_product::spread_tiny` meets its contract. Assumes nothing.
 use borrow.Author.Needs.{needs}
 use native.Mathlib.Omega.{arith}
-use Rattle.double_product.specs.Opposite.{zeros}
+use Rattle.summed_product.specs.Zeros.{zeros-replicate}
 use Rattle.double_product.specs.Spread.{spread-sized}
 use Rattle.double_product.proofs.spread_tiny.Statement.{statement}
 use Rattle.double_product.proofs.spread_tiny.Tie as tie
@@ -21,7 +21,7 @@ slice-aggregate-spread-in-4 c = search needs
 spread-in-requires : tie.Need-spread-in-requires
 spread-in-requires c κs =
     let start = c .before .before .before .before .before .before in
-    (start .pre .0, spread-sized (start .pre .0 .first .modulus) _ _ 8 (omega arith) (start .pre .1) (zeros 136) (zeros 264) (zeros 64) (zeros 64))
+    (start .pre .0, spread-sized (start .pre .0 .first .modulus) _ _ 8 (omega arith) (start .pre .1) (zeros-replicate 136) (zeros-replicate 264) (zeros-replicate 64) (zeros-replicate 64))
 
 same-length : tie.Need-same-length
 same-length c = search needs

@@ -4,7 +4,8 @@ use native.Mathlib.Omega.{arith}
 use Prim.Native.Nat.{ℕ, _+_, _*_, _-_, _<_, _≤_, _%_}
 use lib.ListN.{length, getD, take, drop, set}
 use lib.Seq.{sets}
-use Rattle.schoolbook.specs.ByRows.{cut-pair, cut-remainders, cut-small, zeros-replicate}
+use Rattle.schoolbook.specs.ByRows.{cut-pair, cut-remainders, cut-small}
+use Rattle.summed_product.specs.Zeros.{zeros-replicate}
 use mathlib.Core.Path.{_≡_, refl, sym, ap, _∙_}
 use Rattle.schoolbook.proofs.cut_product.Statement.{statement}
 use Rattle.schoolbook.proofs.cut_product.Tie as tie
