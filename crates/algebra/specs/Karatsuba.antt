@@ -1,5 +1,7 @@
 -- Karatsuba's rule: the even and the odd part of a product from three products of parts of its factors. Assumes nothing.
 --
+--   sums       (e + o) (f + u) is e u + o f + (e f + o u)
+--   subtracted a + (b + c) - b - c is a
 --   even-⊠     the even part of a b is E E' + x O O', with E, E' and O, O' the even and the odd parts of a and b
 --   odd-⊠      its odd part is E O' + O E'
 --   middle     which is (E + O) (E' + O') - E E' - O O'
@@ -19,17 +21,21 @@ module _ {A B : Type 0} {R : Semiring A} {S : Semiring B} (φ : Homomorphism R S
       ≡ S ._⊕_ (φ .map (e ⊗ f ⊕ z ⊗ (o ⊗ u))) (S ._⊗_ x (φ .map (e ⊗ u ⊕ o ⊗ f)))
   parts e o f u z x h = simp (φ .map-⊕, φ .map-⊗, h, ring)
 
+module _ {A : Type 0} (R : Semiring A) where
+  open Semiring R using (_⊕_, _⊗_)
+
+  pub sums : (e o f u : A) → (e ⊕ o) ⊗ (f ⊕ u) ≡ e ⊗ u ⊕ o ⊗ f ⊕ (e ⊗ f ⊕ o ⊗ u)
+  sums e o f u = simp ring
+
 module _ {A : Type 0} {R : Semiring A} (N : Negation R) where
   open Semiring R using (_⊕_, _⊗_)
   open Negation N using (neg)
 
-  subtracted : (a b c : A) → a ⊕ (b ⊕ c) ⊕ neg b ⊕ neg c ≡ a
+  pub subtracted : (a b c : A) → a ⊕ (b ⊕ c) ⊕ neg b ⊕ neg c ≡ a
   subtracted a b c = rw (⊕-assoc R (a ⊕ (b ⊕ c)) (neg b) (neg c), ← neg-⊕ R N, ⊕-assoc R, ⊕-neg R N, ⊕-𝟘 R)
 
   differences : (e o f u : A) → e ⊗ u ⊕ o ⊗ f ≡ (e ⊕ o) ⊗ (f ⊕ u) ⊕ neg (e ⊗ f) ⊕ neg (o ⊗ u)
-  differences e o f u =
-      let sums : (e ⊕ o) ⊗ (f ⊕ u) ≡ e ⊗ u ⊕ o ⊗ f ⊕ (e ⊗ f ⊕ o ⊗ u) = simp ring in
-      rw (sums, subtracted (e ⊗ u ⊕ o ⊗ f) (e ⊗ f) (o ⊗ u))
+  differences e o f u = rw (sums R, subtracted (e ⊗ u ⊕ o ⊗ f) (e ⊗ f) (o ⊗ u))
 
 module _ {A : Type 0} (R : Semiring A) (a b : Series A) where
   open Semiring (series R) using (_⊕_ as _⊞_, _⊗_ as _⊠_)

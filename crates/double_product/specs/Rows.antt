@@ -5,7 +5,6 @@
 --   Reading                rows that can be read
 --   even-source odd-source   so can its parts
 --   blocks-few             the places that they take in blocks, where the product of both directions is at most s²
---   packed-at packed-below   a place of a packed list, and all places are residues
 -- Assumes nothing.
 use Prim.Native.Nat.{ℕ, _+_, _-_, _*_, _/_, _%_, _<_, _≤_, _^_}
 use native.Mathlib.Decide.{decLt}
@@ -118,38 +117,3 @@ blocks-few s n half rows less area false e =
     let long : rows ≤ half = ltb-false half rows (sym e) in
     let few : rows ≤ s = shorter s rows half long area in
     omega (arith, mul-add rows n 8, mul-le-mul-left rows less)
-
-rows-below : (p : ℕ) (z : List ℕ) → ((k : ℕ) → getD z k 0 < p) → (k : ℕ) (g : ℕ → ℕ → ℕ) (a b : ℕ) → b * a ≤ length z → ((j i : ℕ) → g j i < p)
-    → getD (sets z 0 (plane a b g)) k 0 < p
-unfolding plane planePlace coefficient
-rows-below p z old k g a b fits small = go (decLt k (b * a))
-  where
-    go : Dec (k < b * a) → getD (sets z 0 (plane a b g)) k 0 < p
-    go (yes h) =
-        rw (
-          ← zero-add k,
-          getD-sets-inside z 0 (plane a b g) k 0 (rw (length-tabulate, zero-add) fits) (rw length-tabulate h),
-          coefficient-tabulate (b * a) (planePlace a g) k h,
-        )
-        (small (k / a) (k % a))
-    go (no h) = rw (getD-sets-other z 0 (plane a b g) k 0 (λ i c d. omega (arith, rw length-tabulate at c))) (old k)
-
--- a packed list that was written
-module _ (m count : ℕ) (f : ℕ → ℕ → ℕ) (z : List ℕ) (room : count * m ≤ length z) where
-  written-at : (a b : ℕ) (g : ℕ → ℕ → ℕ) → b * a ≤ length z → (j i : ℕ) → j < b → i < a → coefficient (sets z 0 (plane a b g)) (j * a + i) ≡ g j i
-  unfolding coefficient
-  written-at a b g fits j i c d =
-      rw zero-add at (getD-sets-inside z 0 (plane a b g) (j * a + i) 0 (rw (length-plane a b g, zero-add) fits)
-      (rw (length-plane a b g) (omega (arith, mul-le-mul-right a c, suc-mul j a))))
-      ∙ coefficient-plane a b g j i c d
-
-  pub packed-at : (turned : Bool) (j i : ℕ) → j < count → i < m → packedAt turned m count (sets z 0 (packed turned m count f)) j i ≡ f j i
-  unfolding packedAt packed planes.turned
-  packed-at true j i b c = written-at count m (planes.turned f) (rw (mul-comm m count) room) i j c b
-  packed-at false j i b c = written-at m count f room j i b c
-
-  pub packed-below : (p : ℕ) → ((j i : ℕ) → f j i < p) → ((k : ℕ) → getD z k 0 < p) → (turned : Bool) (k : ℕ)
-      → getD (sets z 0 (packed turned m count f)) k 0 < p
-  unfolding packed planes.turned
-  packed-below p h old true k = rows-below p z old k (planes.turned f) count m (rw (mul-comm m count) room) (λ i j. h j i)
-  packed-below p h old false k = rows-below p z old k f m count room h

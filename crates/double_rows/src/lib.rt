@@ -8,7 +8,7 @@ ghost use Rattle.definition.specs.Lists.{tabulate};
 ghost use Rattle.double_rows.specs.Places.{Halves, Packed, Putting, oppositePlace, packedAt, placeOf, spreadPlace};
 
 // The coefficient of y^j x^i in a list of blocks of m places of each of `count` rows.
-fn packed(turned: bool, m: usize, count: usize, l: &[u32], j: usize, i: usize) -> u32
+pub fn packed(turned: bool, m: usize, count: usize, l: &[u32], j: usize, i: usize) -> u32
     requires { ⌜ Packed m count j i × (count * m ≤ length (now l)) ⌝ }
     ensures { λ r. ⌜ r ≡ packedAt turned m count (now (l .entry)) j i ⌝ }
 {

@@ -1,9 +1,11 @@
--- Products of parts of polynomials in x and y: every second place of some rows.
+-- Products of parts of polynomials in x and y: places of some rows, a grid whose blocks are rows.
 --
---   every r n at rows w    the part of n places of each of the rows, every second one of rows of r places, the first at `at`
---   gridOf turned r n at rows   its blocks: its rows or, turned, its columns
+--   gridAt g w             the polynomial that a part holds
+--   orient turned g        its blocks: its rows or, turned, its columns
 --   resultsOf turned m count    the blocks of m places of each of so many rows
 --   packed turned m count f     a polynomial below x^m and y^count in such blocks
+--   facing turned f        the polynomial, x and y exchanged where it is turned
+--   Lies                   the places of a part lie in a list
 --   Source                 a part that can be read, into a clean list with room for it
 --   Few                    the first factor is not too long
 --   Room                   room for the result
@@ -11,6 +13,7 @@
 --   load-needs             what `load` requires
 --   read-blocks read-clean read-values read-few   what it leaves
 --   room-target square-target   what `blocks::multiply` requires
+--   window-0               all rows, from the first on
 --   square-put product-put      what it leaves
 -- Assumes nothing.
 use Prim.Native.Nat.{ℕ, _+_, _*_, _%_, _<_, _≤_, _^_}
@@ -33,12 +36,11 @@ use Rattle.planes.specs.Products as planes
 use Rattle.grids.specs.Grid.{Clean, Readable, gridPlace, gridValue, loaded, loaded-at, loaded-clean}
 use Rattle.grids.specs.declared.Grid.{Grid}
 
-unfoldable pub every : ℕ → ℕ → ℕ → ℕ → List ℕ → ℕ → ℕ → ℕ
-every r n at rows w j i = cond (ltb j rows) (cond (ltb i n) (coefficient w (at + j * r + i * 2)) 0) 0
+unfoldable pub gridAt : Grid → List ℕ → ℕ → ℕ → ℕ
+gridAt g w j i = cond (ltb j (g .count)) (cond (ltb i (g .length)) (coefficient w (g .at + j * g .outer + i * g .inner)) 0) 0
 
-unfoldable pub gridOf : Bool → ℕ → ℕ → ℕ → ℕ → Grid
-gridOf turned r n at rows =
-    cond turned record { at = at; outer = 2; inner = r; count = n; length = rows } record { at = at; outer = r; inner = 2; count = rows; length = n }
+unfoldable pub orient : Bool → Grid → Grid
+orient turned g = cond turned record { at = g .at; outer = g .inner; inner = g .outer; count = g .length; length = g .count } g
 
 unfoldable pub resultsOf : Bool → ℕ → ℕ → Blocks
 resultsOf turned m count = cond turned record { count = m; length = count } record { count = count; length = m }
@@ -46,17 +48,20 @@ resultsOf turned m count = cond turned record { count = m; length = count } reco
 unfoldable pub packed : Bool → ℕ → ℕ → (ℕ → ℕ → ℕ) → List ℕ
 packed turned m count f = cond turned (plane count m (planes.turned f)) (plane m count f)
 
--- the places that the blocks take, with the zeros around them
+-- the places that the blocks of rows of n places take, with the zeros around them
 unfoldable pub blockPlaces : Bool → ℕ → ℕ → ℕ
 blockPlaces turned n rows = cond turned (n * (rows + 8)) (rows * (n + 8))
 
-pub record Source (p : ℕ) (turned : Bool) (r n : ℕ) (w : List ℕ) (at rows : ℕ) (list : List ℕ) : Type 0 where
+pub record Lies (g : Grid) (w : List ℕ) : Type 0 where
+  pub columns : (i : ℕ) → i < g .length → g .at + i * g .inner < 2 ^ 64
+  pub lines : (j : ℕ) → j < g .count → g .at + j * g .outer < 2 ^ 64
+  pub inside : (j i : ℕ) → j < g .count → i < g .length → g .at + j * g .outer + i * g .inner < length w
+
+pub record Source (p : ℕ) (turned : Bool) (g : Grid) (w list : List ℕ) : Type 0 where
   pub modulus : 0 < p
   pub clean : Clean p list
-  pub room : 8 + blockPlaces turned n rows ≤ length list
-  pub columns : (i : ℕ) → i < n → at + i * 2 < 2 ^ 64
-  pub lines : (j : ℕ) → j < rows → at + j * r < 2 ^ 64
-  pub inside : (j i : ℕ) → j < rows → i < n → at + j * r + i * 2 < length w
+  pub room : 8 + blockPlaces turned (g .length) (g .count) ≤ length list
+  pub lies : Lies g w
 
 pub record Few (turned : Bool) (n rows : ℕ) : Type 0 where
   pub few : blockPlaces turned n rows ≤ 5461
@@ -75,54 +80,48 @@ pub record ProductPut (p : ℕ) (turned : Bool) (n count low : ℕ) (f g : ℕ �
   pub clean-left : Clean p left
   pub clean-right : Clean p right
 
-pub source-grid : {p : ℕ} {turned : Bool} {r n : ℕ} {w : List ℕ} {at rows : ℕ} {l : List ℕ} → Source p turned r n w at rows l
-    → (Readable (gridOf turned r n at rows) w) × (8 + gridOf turned r n at rows .count * (gridOf turned r n at rows .length + 8) ≤ length l)
-unfolding gridOf blockPlaces
-source-grid {turned = true} {r} s = (
-  record { begins = s .columns; inside = λ l k b c. omega (arith, s .inside k l c b) },
-  s .room,
-)
-source-grid {turned = false} s = (record { begins = s .lines; inside = s .inside }, s .room)
+pub source-grid : {p : ℕ} {turned : Bool} {g : Grid} {w l : List ℕ} → Source p turned g w l
+    → (Readable (orient turned g) w) × (8 + orient turned g .count * (orient turned g .length + 8) ≤ length l)
+unfolding orient blockPlaces
+source-grid {turned = true} s = (record { begins = s .lies .columns; inside = λ l k b c. omega (arith, s .lies .inside k l c b) }, s .room)
+source-grid {turned = false} s = (record { begins = s .lies .lines; inside = s .lies .inside }, s .room)
 
-pub few-blocks : {turned : Bool} (r n at rows : ℕ) → Few turned n rows
-    → gridOf turned r n at rows .count * (gridOf turned r n at rows .length + 8) ≤ 5461
-unfolding gridOf blockPlaces
-few-blocks {turned = true} r n at rows few = few .few
-few-blocks {turned = false} r n at rows few = few .few
+pub few-blocks : {turned : Bool} (g : Grid) → Few turned (g .length) (g .count) → orient turned g .count * (orient turned g .length + 8) ≤ 5461
+unfolding orient blockPlaces
+few-blocks {turned = true} g few = few .few
+few-blocks {turned = false} g few = few .few
 
 -- the residues of a polynomial, and of it turned
 abbrev residue : ℕ → (ℕ → ℕ → ℕ) → ℕ → ℕ → ℕ
 residue p f j i = f j i % p
 
-abbrev facing : Bool → (ℕ → ℕ → ℕ) → ℕ → ℕ → ℕ
+abbrev pub facing : Bool → (ℕ → ℕ → ℕ) → ℕ → ℕ → ℕ
 facing turned f = cond turned (planes.turned f) f
 
-module _ (p r n at rows : ℕ) (w : List ℕ) where
-  value-at : (j i : ℕ) → cond (ltb j rows) (cond (ltb i n) (coefficient w (at + j * r + i * 2) % p) 0) 0 ≡ every r n at rows w j i % p
-  unfolding every
-  value-at j i = go (decLt j rows) (decLt i n)
+module _ (p : ℕ) (g : Grid) (w : List ℕ) where
+  value-at : (j i : ℕ) → gridValue p w g j i ≡ gridAt g w j i % p
+  unfolding gridAt gridValue
+  value-at j i = go (decLt j (g .count)) (decLt i (g .length))
     where
-      go : Dec (j < rows) → Dec (i < n)
-          → cond (ltb j rows) (cond (ltb i n) (coefficient w (at + j * r + i * 2) % p) 0) 0 ≡ every r n at rows w j i % p
-      go (yes b) (yes c) = rw (lt-ltb j rows b, lt-ltb i n c)
-      go (yes b) (no c) = rw (lt-ltb j rows b, le-ltb i n (omega arith), zero-mod)
-      go (no b) c = rw (le-ltb j rows (omega arith), zero-mod)
+      go : Dec (j < g .count) → Dec (i < g .length) → gridValue p w g j i ≡ gridAt g w j i % p
+      go (yes b) (yes c) = rw (lt-ltb j (g .count) b, lt-ltb i (g .length) c)
+      go (yes b) (no c) = rw (lt-ltb j (g .count) b, le-ltb i (g .length) (omega arith), zero-mod)
+      go (no b) c = rw (le-ltb j (g .count) (omega arith), zero-mod)
 
-  exchanged : (j i : ℕ) → cond (ltb i n) (cond (ltb j rows) (coefficient w (at + i * 2 + j * r) % p) 0) 0
-      ≡ cond (ltb j rows) (cond (ltb i n) (coefficient w (at + j * r + i * 2) % p) 0) 0
-  exchanged j i = go (decLt j rows) (decLt i n)
+  exchanged : (j i : ℕ) → gridValue p w (orient true g) i j ≡ gridValue p w g j i
+  unfolding gridValue orient
+  exchanged j i = go (decLt j (g .count)) (decLt i (g .length))
     where
-      go : Dec (j < rows) → Dec (i < n) → cond (ltb i n) (cond (ltb j rows) (coefficient w (at + i * 2 + j * r) % p) 0) 0
-          ≡ cond (ltb j rows) (cond (ltb i n) (coefficient w (at + j * r + i * 2) % p) 0) 0
+      go : Dec (j < g .count) → Dec (i < g .length) → gridValue p w (orient true g) i j ≡ gridValue p w g j i
       go (yes b) (yes c) =
-          let same : at + i * 2 + j * r ≡ at + j * r + i * 2 = omega arith in
-          rw (lt-ltb j rows b, lt-ltb i n c, same)
-      go (yes b) (no c) = rw (lt-ltb j rows b, le-ltb i n (omega arith))
-      go (no b) (yes c) = rw (le-ltb j rows (omega arith), lt-ltb i n c)
-      go (no b) (no c) = rw (le-ltb j rows (omega arith), le-ltb i n (omega arith))
+          let same : g .at + i * g .inner + j * g .outer ≡ g .at + j * g .outer + i * g .inner = omega arith in
+          rw (lt-ltb j (g .count) b, lt-ltb i (g .length) c, same)
+      go (yes b) (no c) = rw (lt-ltb j (g .count) b, le-ltb i (g .length) (omega arith))
+      go (no b) (yes c) = rw (le-ltb j (g .count) (omega arith), lt-ltb i (g .length) c)
+      go (no b) (no c) = rw (le-ltb j (g .count) (omega arith), le-ltb i (g .length) (omega arith))
 
-  grid-values : (turned : Bool) → gridValue p w (gridOf turned r n at rows) ≡ facing turned (residue p (every r n at rows w))
-  unfolding gridValue gridOf planes.turned
+  grid-values : (turned : Bool) → gridValue p w (orient turned g) ≡ facing turned (residue p (gridAt g w))
+  unfolding orient planes.turned
   grid-values true = fun-ext λ i. fun-ext λ j. exchanged j i ∙ value-at j i
   grid-values false = fun-ext λ j. fun-ext λ i. value-at j i
 
@@ -141,8 +140,7 @@ module _ {p : ℕ} (l : 0 < p) (f g : ℕ → ℕ → ℕ) where
       ap (plane n count) (fun-ext λ j. fun-ext λ i. rw (e, h, zero-add) (residues2 l f g (low + j) i))
 
 -- a part, read into a list
-module _ {p : ℕ} {turned : Bool} {r n : ℕ} {w : List ℕ} {at rows : ℕ} {l₀ : List ℕ} (source : Source p turned r n w at rows l₀) {g : Grid}
-    (eg : g ≡ gridOf turned r n at rows) where
+module _ {p : ℕ} {turned : Bool} {part : Grid} {w l₀ : List ℕ} (source : Source p turned part w l₀) {g : Grid} (eg : g ≡ orient turned part) where
   pub load-needs : (0 < p) × Readable g w × (8 + g .count * (g .length + 8) ≤ length l₀)
   load-needs = (source .modulus, rw eg (source-grid source .0), rw eg (source-grid source .1))
 
@@ -156,14 +154,14 @@ module _ {p : ℕ} {turned : Bool} {r n : ℕ} {w : List ℕ} {at rows : ℕ} {l
     pub read-clean : Clean p l
     read-clean = loaded-clean (source .modulus) w g (source .clean) (load-needs .2) el
 
-    pub read-values : blocksOf b l ≡ facing turned (residue p (every r n at rows w))
+    pub read-values : blocksOf b l ≡ facing turned (residue p (gridAt part w))
     read-values =
         (fun-ext λ i. fun-ext λ k. loaded-at (source .modulus) w g (source .clean) (load-needs .2) el i k)
         ∙ ap (gridValue p w) eg
-        ∙ grid-values p r n at rows w turned
+        ∙ grid-values p part w turned
 
-    pub read-few : Few turned n rows → g .count * (g .length + 8) ≤ 5461
-    read-few few = rw eg (few-blocks r n at rows few)
+    pub read-few : Few turned (part .length) (part .count) → g .count * (g .length + 8) ≤ 5461
+    read-few few = rw eg (few-blocks part few)
 
 pub room-target : {turned : Bool} {m count low : ℕ} {z : List ℕ} → Room turned m count low z → {t : Blocks} → t ≡ resultsOf turned m count
     → Target (cond turned 0 low) (cond turned low 0) t z
@@ -179,7 +177,7 @@ same-first false = refl
 pub square-target : {turned : Bool} {m count : ℕ} {z : List ℕ} → Room turned m count 0 z → {t : Blocks} → t ≡ resultsOf turned m count → Target 0 0 t z
 square-target {turned} o {t} e = rw same-first at (room-target o e)
 
-window-0 : (a : ℕ → ℕ → ℕ) → window 0 a ≡ a
+pub window-0 : (a : ℕ → ℕ → ℕ) → window 0 a ≡ a
 unfolding window
 window-0 a = fun-ext λ j. rw zero-add
 

@@ -1,5 +1,6 @@
-// Every second place of the rows of a polynomial in x and y, read from a lent buffer into a list of blocks, and products of two such parts. A block
-// is a row, or, where there are more rows than places in them, a column: the inner loops run along the longer direction.
+// Parts of polynomials in x and y, read from a lent buffer into lists of blocks, and products of two such parts. A part is a grid: places of some rows,
+// at equal distances. A block is a row of it, or, where there are more rows than places in them, a column: the inner loops run along the longer
+// direction.
 use blocks::Blocks;
 ghost use mathlib.Core.Path.{_≡_};
 ghost use Prim.Native.Nat.{ℕ, _+_, _*_, _<_, _≤_};
@@ -8,7 +9,7 @@ ghost use lib.Seq.{sets};
 ghost use Rattle.definition.specs.KinoshitaLi.{plane};
 ghost use Rattle.definition.specs.Lists.{tabulate};
 ghost use Rattle.grids.specs.Grid.{Readable, blockPlace, gridPlace};
-ghost use Rattle.grids.specs.Parts.{Few, ProductPut, Room, Source, SquarePut, every, gridOf, resultsOf};
+ghost use Rattle.grids.specs.Parts.{Few, ProductPut, Room, Source, SquarePut, gridAt, orient, resultsOf};
 
 // Blocks in a buffer: block l begins at at + l outer, and its places lie `inner` apart.
 pub struct Grid {
@@ -64,30 +65,24 @@ fn load(p: u32, w: &[u32], g: Grid, into: &mut [u64])
     }
 }
 
-// Every second place of rows of r places: n places of each, the first at `at`. Turned, a block is a column.
-fn every_second(turned: bool, r: usize, n: usize, at: usize, rows: usize) -> Grid
-    ensures { λ g. ⌜ g ≡ gridOf turned r n at rows ⌝ }
+// The same places, its columns for its rows where it is turned.
+fn oriented(turned: bool, g: Grid) -> Grid
+    ensures { λ s. ⌜ s ≡ orient turned g ⌝ }
 {
     if turned {
         return Grid {
-            at,
-            outer: 2,
-            inner: r,
-            count: n,
-            length: rows,
+            at: g.at,
+            outer: g.inner,
+            inner: g.outer,
+            count: g.length,
+            length: g.count,
         };
     }
-    Grid {
-        at,
-        outer: r,
-        inner: 2,
-        count: rows,
-        length: n,
-    }
+    g
 }
 
 // The blocks of m places of each of `count` rows.
-fn results(turned: bool, m: usize, count: usize) -> Blocks
+pub fn results(turned: bool, m: usize, count: usize) -> Blocks
     ensures { λ b. ⌜ b ≡ resultsOf turned m count ⌝ }
 {
     if turned {
@@ -99,29 +94,25 @@ fn results(turned: bool, m: usize, count: usize) -> Blocks
     Blocks { count, length: m }
 }
 
-// The first places of z become m places of each of the first `count` rows of the square of a part: n places of each of `rows` rows, every second one,
-// the first at `at`.
+// The first places of z become m places of each of the first `count` rows of the square of a part.
 pub fn square(
     p: u32,
     turned: bool,
-    r: usize,
-    n: usize,
+    g: Grid,
     w: &[u32],
-    at: usize,
-    rows: usize,
     m: usize,
     count: usize,
     left: &mut [u64],
     z: &mut [u32],
 )
-    requires { ⌜ Source p turned r n (now w) at rows (now left) × Few turned n rows × Room turned m count 0 (now z) ⌝ }
-    ensures { λ s. ⌜ SquarePut p turned m count (every r n at rows (now (w .entry))) (now (z .entry)) (now (z .exit)) (now (left .exit)) ⌝ }
+    requires { ⌜ Source p turned g (now w) (now left) × Few turned (g .length) (g .count) × Room turned m count 0 (now z) ⌝ }
+    ensures { λ s. ⌜ SquarePut p turned m count (gridAt g (now (w .entry))) (now (z .entry)) (now (z .exit)) (now (left .exit)) ⌝ }
 {
-    let g = every_second(turned, r, n, at, rows);
-    load(p, w, g, left);
+    let part = oriented(turned, g);
+    load(p, w, part, left);
     let a = Blocks {
-        count: g.count,
-        length: g.length,
+        count: part.count,
+        length: part.length,
     };
     blocks::multiply(
         p,
@@ -137,42 +128,39 @@ pub fn square(
     );
 }
 
-// The first places of z become n places of each of `count` rows, from row `low` on, of the product of two parts: n places of each of the rows, every second
-// one, the first at `at` and at `to`.
+// The first places of z become m places of each of `count` rows, from row `low` on, of the product of two parts.
 pub fn product(
     p: u32,
     turned: bool,
-    r: usize,
-    n: usize,
+    g: Grid,
     w: &[u32],
-    at: usize,
-    rows: usize,
-    to: usize,
-    more: usize,
+    h: Grid,
+    v: &[u32],
     low: usize,
+    m: usize,
     count: usize,
     left: &mut [u64],
     right: &mut [u64],
     z: &mut [u32],
 )
-    requires { ⌜ Source p turned r n (now w) at rows (now left) × Few turned n rows × Source p turned r n (now w) to more (now right)
-        × Room turned n count low (now z) ⌝ }
-    ensures { λ s. ⌜ ProductPut p turned n count low (every r n at rows (now (w .entry))) (every r n to more (now (w .entry)))
+    requires { ⌜ Source p turned g (now w) (now left) × Few turned (g .length) (g .count) × Source p turned h (now v) (now right)
+        × Room turned m count low (now z) ⌝ }
+    ensures { λ s. ⌜ ProductPut p turned m count low (gridAt g (now (w .entry))) (gridAt h (now (v .entry)))
         (now (z .entry)) (now (z .exit)) (now (left .exit)) (now (right .exit)) ⌝ }
 {
-    let g = every_second(turned, r, n, at, rows);
-    let h = every_second(turned, r, n, to, more);
-    load(p, w, g, left);
-    load(p, w, h, right);
+    let first = oriented(turned, g);
+    let second = oriented(turned, h);
+    load(p, w, first, left);
+    load(p, v, second, right);
     let a = Blocks {
-        count: g.count,
-        length: g.length,
+        count: first.count,
+        length: first.length,
     };
     let b = Blocks {
-        count: h.count,
-        length: h.length,
+        count: second.count,
+        length: second.length,
     };
-    let t = results(turned, n, count);
+    let t = results(turned, m, count);
     if turned {
         blocks::multiply(p, false, a, left, b, right, 0, low, t, z);
     } else {

@@ -9,7 +9,7 @@ ghost use Rattle.parity.specs.Halves.{Residues, neighbourSum, part, seco
 ghost use Rattle.parity.specs.Weave.{Woven, woven};
 
 // m - e - o modulo p.
-fn cross(p: u32, m: u32, e: u32, o: u32) -> u32
+pub fn cross(p: u32, m: u32, e: u32, o: u32) -> u32
     requires { ⌜ (m < p) × (e < p) × (o < p) ⌝ }
     ensures { λ r. ⌜ r ≡ ((m + negative p e) % p + negative p o) % p ⌝ }
 {

@@ -6,30 +6,30 @@ use mathlib.Core.Path.{sym}
 use Rattle.grids.proofs.product.Statement.{statement}
 use Rattle.grids.proofs.product.Tie as tie
 
-every-second-requires : tie.Need-every-second-requires
-every-second-requires c κs = search needs
+oriented-requires : tie.Need-oriented-requires
+oriented-requires c κs = search needs
 
-every-second-requires-2 : tie.Need-every-second-requires-2
-every-second-requires-2 c κs = search needs
+oriented-requires-2 : tie.Need-oriented-requires-2
+oriented-requires-2 c κs = search needs
 
 load-requires : tie.Need-load-requires
-load-requires c κs = load-needs (c .before .before .before .before .before .before .before .pre .0) (c .before .before .every-second .ensures)
+load-requires c κs = load-needs (c .before .before .before .before .before .before .before .before .pre .0) (c .before .before .oriented .ensures)
 
 load-requires-2 : tie.Need-load-requires-2
-load-requires-2 c κs = load-needs (c .before .before .before .before .before .before .before .before .before .before .before .pre .2) (c .before .before .before .before .before .every-second2 .ensures)
+load-requires-2 c κs = load-needs (c .before .before .before .before .before .before .before .before .before .before .before .before .pre .2) (c .before .before .before .before .before .oriented2 .ensures)
 
 results-requires : tie.Need-results-requires
 results-requires c κs = search needs
 
 multiply-requires : tie.Need-multiply-requires
 multiply-requires c κs =
-    let start = c .before .before .before .before .before .before .before .before .before .before .before .before .before .before .before .before .before .before .before in
-    let grid = c .before .before .before .before .before .before .before .before .before .before .before .before .before .before .every-second .ensures in
+    let start = c .before .before .before .before .before .before .before .before .before .before .before .before .before .before .before .before .before .before .before .before in
+    let grid = c .before .before .before .before .before .before .before .before .before .before .before .before .before .before .oriented .ensures in
     let list = c .before .before .before .before .before .before .before .before .before .before .before .load .ensures in (
       record {
         modulus = start .pre .0 .modulus;
         first = read-blocks (start .pre .0) grid list;
-        second = read-blocks (start .pre .2) (c .before .before .before .before .before .before .before .before .before .before .before .before .before .every-second2 .ensures) (c .before .before .before .before .before .before .before .load2 .ensures);
+        second = read-blocks (start .pre .2) (c .before .before .before .before .before .before .before .before .before .before .before .before .before .oriented2 .ensures) (c .before .before .before .before .before .before .before .load2 .ensures);
         few = read-few (start .pre .0) grid list (start .pre .1);
       },
       record { same = λ e. absurd (false≢true e) },
@@ -38,13 +38,13 @@ multiply-requires c κs =
 
 multiply-requires-2 : tie.Need-multiply-requires-2
 multiply-requires-2 c κs =
-    let start = c .before .before .before .before .before .before .before .before .before .before .before .before .before .before .before .before .before .before .before in
-    let grid = c .before .before .before .before .before .before .before .before .before .before .before .before .before .before .every-second .ensures in
+    let start = c .before .before .before .before .before .before .before .before .before .before .before .before .before .before .before .before .before .before .before .before in
+    let grid = c .before .before .before .before .before .before .before .before .before .before .before .before .before .before .oriented .ensures in
     let list = c .before .before .before .before .before .before .before .before .before .before .before .load .ensures in (
       record {
         modulus = start .pre .0 .modulus;
         first = read-blocks (start .pre .0) grid list;
-        second = read-blocks (start .pre .2) (c .before .before .before .before .before .before .before .before .before .before .before .before .before .every-second2 .ensures) (c .before .before .before .before .before .before .before .load2 .ensures);
+        second = read-blocks (start .pre .2) (c .before .before .before .before .before .before .before .before .before .before .before .before .before .oriented2 .ensures) (c .before .before .before .before .before .before .before .load2 .ensures);
         few = read-few (start .pre .0) grid list (start .pre .1);
       },
       record { same = λ e. absurd (false≢true e) },
@@ -62,9 +62,9 @@ same-length-3 c = search needs
 
 returns : tie.Need-returns
 returns c =
-    let start = c .before .before .before .before .before .before .before .before .before .before .before .before .before .before .before .before .before .before .before .before .before .before in
-    let grid = c .before .before .before .before .before .before .before .before .before .before .before .before .before .before .before .before .before .every-second .ensures in
-    let more = c .before .before .before .before .before .before .before .before .before .before .before .before .before .before .before .before .every-second2 .ensures in
+    let start = c .before .before .before .before .before .before .before .before .before .before .before .before .before .before .before .before .before .before .before .before .before .before .before in
+    let grid = c .before .before .before .before .before .before .before .before .before .before .before .before .before .before .before .before .before .oriented .ensures in
+    let more = c .before .before .before .before .before .before .before .before .before .before .before .before .before .before .before .before .oriented2 .ensures in
     let list = c .before .before .before .before .before .before .before .before .before .before .before .before .before .before .load .ensures in
     let second = c .before .before .before .before .before .before .before .before .before .before .load2 .ensures in
     product-put (start .pre .0 .modulus) _ _ _ _ _ _ _ _ (read-values (start .pre .0) grid list) (read-values (start .pre .2) more second)
@@ -82,9 +82,9 @@ same-length-6 c = search needs
 
 returns-2 : tie.Need-returns-2
 returns-2 c =
-    let start = c .before .before .before .before .before .before .before .before .before .before .before .before .before .before .before .before .before .before .before .before .before .before in
-    let grid = c .before .before .before .before .before .before .before .before .before .before .before .before .before .before .before .before .before .every-second .ensures in
-    let more = c .before .before .before .before .before .before .before .before .before .before .before .before .before .before .before .before .every-second2 .ensures in
+    let start = c .before .before .before .before .before .before .before .before .before .before .before .before .before .before .before .before .before .before .before .before .before .before .before in
+    let grid = c .before .before .before .before .before .before .before .before .before .before .before .before .before .before .before .before .before .oriented .ensures in
+    let more = c .before .before .before .before .before .before .before .before .before .before .before .before .before .before .before .before .oriented2 .ensures in
     let list = c .before .before .before .before .before .before .before .before .before .before .before .before .before .before .load .ensures in
     let second = c .before .before .before .before .before .before .before .before .before .before .load2 .ensures in
     product-put (start .pre .0 .modulus) _ _ _ _ _ _ _ _ (read-values (start .pre .0) grid list) (read-values (start .pre .2) more second)
@@ -95,8 +95,8 @@ pub product-spec : {M : Type 1} → statement M
 product-spec =
     tie.close
     (tie.spec
-    every-second-requires
-    every-second-requires-2
+    oriented-requires
+    oriented-requires-2
     load-requires
     load-requires-2
     results-requires

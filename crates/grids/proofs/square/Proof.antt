@@ -5,11 +5,11 @@ use mathlib.Core.Path.{refl}
 use Rattle.grids.proofs.square.Statement.{statement}
 use Rattle.grids.proofs.square.Tie as tie
 
-every-second-requires : tie.Need-every-second-requires
-every-second-requires c κs = search needs
+oriented-requires : tie.Need-oriented-requires
+oriented-requires c κs = search needs
 
 load-requires : tie.Need-load-requires
-load-requires c κs = load-needs (c .before .before .before .before .before .pre .0) (c .before .every-second .ensures)
+load-requires c κs = load-needs (c .before .before .before .before .before .pre .0) (c .before .oriented .ensures)
 
 results-requires : tie.Need-results-requires
 results-requires c κs = search needs
@@ -17,7 +17,7 @@ results-requires c κs = search needs
 multiply-requires : tie.Need-multiply-requires
 multiply-requires c κs =
     let start = c .before .before .before .before .before .before .before .before .before .before .before in
-    let grid = c .before .before .before .before .before .before .before .every-second .ensures in
+    let grid = c .before .before .before .before .before .before .before .oriented .ensures in
     let list = c .before .before .before .before .before .load .ensures in (
       record {
         modulus = start .pre .0 .modulus;
@@ -38,7 +38,7 @@ same-length-2 c = search needs
 returns : tie.Need-returns
 returns c =
     let start = c .before .before .before .before .before .before .before .before .before .before .before .before .before .before in
-    let grid = c .before .before .before .before .before .before .before .before .before .before .every-second .ensures in
+    let grid = c .before .before .before .before .before .before .before .before .before .before .oriented .ensures in
     let list = c .before .before .before .before .before .before .before .before .load .ensures in
     square-put (start .pre .0 .modulus) _ _ _ _ (read-values (start .pre .0) grid list) (c .before .before .before .before .results .ensures) (c .before .before .multiply .ensures)
     (read-clean (start .pre .0) grid list)
@@ -47,7 +47,7 @@ pub square-spec : {M : Type 1} → statement M
 square-spec =
     tie.close
     (tie.spec
-    every-second-requires
+    oriented-requires
     load-requires
     results-requires
     multiply-requires
