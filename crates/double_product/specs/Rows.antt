@@ -1,9 +1,14 @@
--- The even and the odd powers of x in rows of a buffer, as parts that are read into blocks.
+-- The even and the odd powers of x in rows of a buffer, as parts.
 --
 --   rowsAt r w at rows     the polynomial in so many rows of r places from `at` on
---   every-even every-odd   the parts that are read are its even and its odd part
+--   everySecond r n at rows    the part with every second place of the rows, n of each, the first at `at`
+--   every                  and the polynomial that it holds
+--   resultsOf              rows of a product
+--   part-of source-of      what is required of a part that is known by an equation
+--   every-even every-odd   it is the even or the odd part of the other
 --   Reading                rows that can be read
---   even-source odd-source   so can its parts
+--   next-fits              the place of the first odd power does not wrap
+--   lies-second lies-even lies-odd   so can their parts
 --   blocks-few             the places that they take in blocks, where the product of both directions is at most s²
 -- Assumes nothing.
 use Prim.Native.Nat.{ℕ, _+_, _-_, _*_, _/_, _%_, _<_, _≤_, _^_}
@@ -15,23 +20,36 @@ use mathlib.Core.Bool.{Bool, false, true}
 use mathlib.Core.List.{List}
 use mathlib.Core.Path.{_≡_, sym, fun-ext, _∙_}
 use lib.Dec.{ltb}
-use lib.ListN.{length, getD}
-use lib.Seq.{sets}
-use Rattle.algebra.specs.Lists.{coefficient-tabulate, length-tabulate}
-use Rattle.algebra.specs.Rows.{coefficient-plane, length-plane, planeAt-above, planeAt-inside, planeAt-right}
-use Rattle.buffer.specs.Written.{getD-sets-inside, getD-sets-other}
+use lib.ListN.{length}
+use Rattle.algebra.specs.Rows.{planeAt-above, planeAt-inside, planeAt-right}
 use Rattle.buffer.specs.Segments.{coefficient-segment, length-segment, segment}
-use Rattle.definition.specs.KinoshitaLi.{evenPart, plane, planeAt, planePlace}
+use Rattle.definition.specs.KinoshitaLi.{evenPart, planeAt}
 use Rattle.definition.specs.Lists.{ceilDiv, coefficient}
-use Rattle.grids.specs.Grid.{Clean}
-use Rattle.grids.specs.Parts.{Source, blockPlaces, every, packed}
-use Rattle.planes.specs.Products as planes
+use Rattle.grids.specs.Parts.{Few, Lies, Source, blockPlaces, gridAt}
+use Rattle.grids.specs.declared.Grid.{Grid}
+use Rattle.double_karatsuba.specs.declared.Results.{Results}
 use Rattle.planes.specs.Rows.{plane-fits}
 use Rattle.planes.specs.Parity.{oddPart}
-use Rattle.double_rows.specs.Places.{packedAt}
 
 abbrev pub rowsAt : ℕ → List ℕ → ℕ → ℕ → ℕ → ℕ → ℕ
 rowsAt r w at rows = planeAt r (segment w at (rows * r))
+
+abbrev pub everySecond : ℕ → ℕ → ℕ → ℕ → Grid
+everySecond r n at rows = record { at = at; outer = r; inner = 2; count = rows; length = n }
+
+abbrev pub resultsOf : Bool → ℕ → ℕ → ℕ → Results
+resultsOf turned low count m = record { turned = turned; low = low; rows = count; places = m }
+
+abbrev pub every : ℕ → ℕ → ℕ → ℕ → List ℕ → ℕ → ℕ → ℕ
+every r n at rows = gridAt (everySecond r n at rows)
+
+-- what is required of a part that is known by an equation
+pub part-of : {p : ℕ} {turned : Bool} {g g′ : Grid} {w l : List ℕ} → g ≡ g′ → Source p turned g′ w l × Few turned (g′ .length) (g′ .count)
+    → Source p turned g w l × Few turned (g .length) (g .count)
+part-of e s = rw e s
+
+pub source-of : {p : ℕ} {turned : Bool} {g g′ : Grid} {w l : List ℕ} → g ≡ g′ → Source p turned g′ w l → Source p turned g w l
+source-of e s = rw e s
 
 -- a place of the rows
 module _ (r : ℕ) (w : List ℕ) (at rows : ℕ) where
@@ -49,7 +67,7 @@ module _ (r : ℕ) (w : List ℕ) (at rows : ℕ) where
   -- every second place, from place c of a row on
   second : (n c : ℕ) → c ≤ 1 → ((i : ℕ) → i < n → 2 * i + c < r) → ((i : ℕ) → n ≤ i → r ≤ 2 * i + c)
       → (j i : ℕ) → every r n (at + c) rows w j i ≡ rowsAt r w at rows j (2 * i + c)
-  unfolding every
+  unfolding gridAt
   second n c small below beyond j i = go (decLt j rows) (decLt i n)
     where
       go : Dec (j < rows) → Dec (i < n) → every r n (at + c) rows w j i ≡ rowsAt r w at rows j (2 * i + c)
@@ -79,26 +97,23 @@ module _ {p r at rows : ℕ} {w : List ℕ} (reading : Reading p r at rows w) wh
   row-fits : (j : ℕ) → j < rows → at + j * r + r ≤ length w
   row-fits j b = plane-fits at r rows j (reading .source) b
 
-  pub source-of : (turned : Bool) (n c : ℕ) {l : List ℕ} → ((i : ℕ) → i < n → 2 * i + c < r) → c ≤ r → Clean p l → 8 + blockPlaces turned n rows ≤ length l
-      → Source p turned r n w (at + c) rows l
-  source-of turned n c below few clean room = record {
-    modulus = reading .modulus;
-    clean = clean;
-    room = room;
+  pub next-fits : at + 1 < 2 ^ 64
+  next-fits = omega (arith, row-fits 0 (reading .some), reading .positive, reading .fits)
+
+  pub lies-second : (n c : ℕ) → ((i : ℕ) → i < n → 2 * i + c < r) → c ≤ r → Lies (everySecond r n (at + c) rows) w
+  lies-second n c below few = record {
     columns = λ i b. omega (arith, row-fits 0 (reading .some), below i b, reading .fits);
     lines = λ j b. omega (arith, row-fits j b, reading .fits);
     inside = λ j i b c. omega (arith, row-fits j b, below i c);
   }
 
-  pub even-source : (turned : Bool) {half : ℕ} {l : List ℕ} → half ≡ ceilDiv r 2 → Clean p l → 8 + blockPlaces turned half rows ≤ length l
-      → Source p turned r half w at rows l
+  pub lies-even : {half : ℕ} → half ≡ ceilDiv r 2 → Lies (everySecond r half at rows) w
   unfolding ceilDiv
-  even-source turned {half} e clean room = rw add-zero at (source-of turned half 0 (λ i b. omega arith) (omega arith) clean room)
+  lies-even {half} e = rw add-zero at (lies-second half 0 (λ i b. omega arith) (omega arith))
 
-  pub odd-source : (turned : Bool) {half : ℕ} {l : List ℕ} → half ≡ ceilDiv r 2 → Clean p l → 8 + blockPlaces turned (r - half) rows ≤ length l
-      → Source p turned r (r - half) w (at + 1) rows l
+  pub lies-odd : {half : ℕ} → half ≡ ceilDiv r 2 → Lies (everySecond r (r - half) (at + 1) rows) w
   unfolding ceilDiv
-  odd-source turned {half} e clean room = source-of turned (r - half) 1 (λ i b. omega arith) (reading .positive) clean room
+  lies-odd {half} e = lies-second (r - half) 1 (λ i b. omega arith) (reading .positive)
 
 -- the shorter direction is at most s
 pub shorter : (s a b : ℕ) → a ≤ b → a * b ≤ s * s → a ≤ s

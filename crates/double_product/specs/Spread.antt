@@ -23,24 +23,41 @@ use Rattle.definition.specs.Bernstein.{spread}
 use Rattle.definition.specs.KinoshitaLi.{cutProduct2At, evenPart, plane, product2, squared, window}
 use Rattle.definition.specs.Lists.{ceilDiv}
 use Rattle.grids.specs.Grid.{Clean}
-use Rattle.grids.specs.Parts.{Few, ProductPut, Room, Source, blockPlaces, every}
+use Rattle.grids.specs.Parts.{Few, Lies, Room, Source, blockPlaces, gridAt, packed}
+use Rattle.grids.specs.declared.Grid.{Grid}
 use Rattle.summed_product.specs.Zeros.{Zeros}
 use Rattle.planes.specs.Parity.{oddPart, squared-even, squared-odd}
 use Rattle.planes.specs.Products.{product2-agree, product2-comm}
-use Rattle.double_product.specs.Opposite.{half-near, half-positive, zeros-clean}
+use Rattle.double_karatsuba.specs.Packed.{packed-at, packed-below}
+use Rattle.double_karatsuba.specs.Product.{Multiplied, Multiplying, same-multiplied, zeros-clean}
+use Rattle.double_karatsuba.specs.declared.Results.{Results}
+use Rattle.double_product.specs.Opposite.{half-near, half-positive}
 use Rattle.double_rows.specs.Places.{Putting, packedAt, placeOf, spreadPlace}
-use Rattle.double_product.specs.Rows.{Reading, blocks-few, even-source, every-even, every-odd, odd-source, packed-at, packed-below, rowsAt, shorter, source-of}
+use Rattle.double_product.specs.Rows.{Reading, blocks-few, every, every-even, every-odd, everySecond, lies-even, lies-odd, lies-second, resultsOf, rowsAt, shorter}
 
-pub record SpreadLists (p side : ℕ) (left right even odd : List ℕ) : Type 0 where
+pub record SpreadLists (p side : ℕ) (even odd : List ℕ) : Type 0 where
   pub few : side ≤ 64
-  pub clean-left : Clean p left
-  pub clean-right : Clean p right
-  pub left-room : 8 + (side * side + 8 * side) ≤ length left
-  pub right-room : 8 + (2 * (side * side) + 16 * side) ≤ length right
   pub even-room : side * side ≤ length even
   pub odd-room : side * side ≤ length odd
   pub even-below : (k : ℕ) → getD even k 0 < p
   pub odd-below : (k : ℕ) → getD odd k 0 < p
+
+-- a product of parts that are known by equations
+module _ (p : ℕ) (turned : Bool) (m count low : ℕ) (w z : List ℕ) {z′ : List ℕ} {g g′ h h′ : Grid} (e : g ≡ g′) (f : h ≡ h′) where
+  pub product-of : z′ ≡ sets z 0 (packed turned m count (window low (cutProduct2At p (gridAt g w) (gridAt h w))))
+      → z′ ≡ sets z 0 (packed turned m count (window low (cutProduct2At p (gridAt g′ w) (gridAt h′ w))))
+  product-of k = rw (e, f) at k
+
+  pub long-product-of : {t : Results} → t ≡ resultsOf turned low count m → Multiplied p g w h w t z z′
+      → z′ ≡ sets z 0 (packed turned m count (window low (cutProduct2At p (gridAt g′ w) (gridAt h′ w))))
+  long-product-of k b = same-multiplied p w w z e f k b
+
+-- the lists that factors are read into
+pub record SpreadFactors (p side : ℕ) (left right : List ℕ) : Type 0 where
+  pub clean-left : Clean p left
+  pub clean-right : Clean p right
+  pub left-room : 8 + (side * side + 8 * side) ≤ length left
+  pub right-room : 8 + (2 * (side * side) + 16 * side) ≤ length right
 
 pub record SpreadRoom (p r a rows b more low t count : ℕ) (w : List ℕ) : Type 0 where
   pub first : Reading p r a rows w
@@ -54,7 +71,8 @@ pub record SpreadRoom (p r a rows b more low t count : ℕ) (w : List ℕ) : Typ
 
 pub record SpreadSized (p r more : ℕ) (left right even odd : List ℕ) : Type 0 where
   pub side : ℕ
-  pub lists : SpreadLists p side left right even odd
+  pub lists : SpreadLists p side even odd
+  pub factors : SpreadFactors p side left right
   pub size : more * ceilDiv r 2 ≤ side * side
 
 -- twice as many rows
@@ -83,7 +101,7 @@ squared-of a zeros = fun-ext λ j. fun-ext λ i. at j i (i % 2) refl
         rw (ne-eqb (i % 2) 0 (λ z. omega arith)) (ap (a j) same ∙ zeros j (i / 2))
 
 module _ {p r a rows b more low t count : ℕ} {w : List ℕ} (room : SpreadRoom p r a rows b more low t count w) {side half : ℕ}
-    {left right even odd : List ℕ} (lists : SpreadLists p side left right even odd) (size : more * half ≤ side * side) (eh : half ≡ ceilDiv r 2)
+    {even odd : List ℕ} (lists : SpreadLists p side even odd) (size : more * half ≤ side * side) (eh : half ≡ ceilDiv r 2)
     {turned : Bool} (et : turned ≡ ltb half more) where
   area : side * side ≤ 4096
   area = mul-le-mul {n₂ = 64} {m₂ = 64} (lists .few) (lists .few)
@@ -97,45 +115,89 @@ module _ {p r a rows b more low t count : ℕ} {w : List ℕ} (room : SpreadRoom
   near : r - half ≤ half
   near = rw eh (half-near r .0)
 
-  few-of : (n : ℕ) → n ≤ half → Few turned n more
-  few-of n d = record { few = omega (arith, blocks-few side n half more d size turned et, area, lists .few) }
+  few-of : (n : ℕ) → n ≤ half → blockPlaces turned n more ≤ 4608
+  few-of n d = omega (arith, blocks-few side n half more d size turned et, area, lists .few)
+
+  many-of : (n : ℕ) → n ≤ half → blockPlaces turned n rows ≤ 9216
+  many-of n d = omega (arith, blocks-double side n half rows more d size (room .doubled) turned et, area, lists .few)
+
+  few-places : half ≤ 4096
+  few-places = omega (arith, area, size, mul-le-mul-right half (room .second .some), one-mul half)
 
   room-of : (m : ℕ) → m ≤ half → (z : List ℕ) → side * side ≤ length z → Room turned m count low z
   room-of m d z c = record {
     room = omega (arith, mul-le-mul-left count d, results-fit);
-    places = omega (arith, area, size, mul-le-mul-right half (room .second .some), one-mul half);
+    places = omega (arith, few-places);
     rows = omega (arith, room .window, room .few, area, size, mul-le-mul-left more positive, mul-one more);
   }
 
-  pub even-factors : Source p turned r half w b more left × Few turned half more × Source p turned r half w a rows right × Room turned half count low even
-  even-factors = (
-    even-source (room .second) turned eh (lists .clean-left) (omega (arith, blocks-few side half half more (le-refl half) size turned et, lists .left-room)),
-    few-of half (le-refl half),
-    even-source (room .first) turned eh (lists .clean-right)
-        (omega (arith, blocks-double side half half rows more (le-refl half) size (room .doubled) turned et, lists .right-room)),
-    room-of half (le-refl half) even (lists .even-room),
-  )
-
-  pub odd-factors : {l l′ : List ℕ} → Clean p l → length l ≡ length left → Clean p l′ → length l′ ≡ length right
-      → Source p turned r (r - half) w (b + 1) more l × Few turned (r - half) more × Source p turned r (r - half) w a rows l′
-      × Room turned (r - half) count low odd
-  odd-factors clean e clean′ e′ = (
-    odd-source (room .second) turned eh clean (rw e (omega (arith, blocks-few side (r - half) half more near size turned et, lists .left-room))),
-    few-of (r - half) near,
-    rw add-zero at (source-of (room .first) turned (r - half) 0 below (omega arith) clean′
-        (rw e′ (omega (arith, blocks-double side (r - half) half rows more near size (room .doubled) turned et, lists .right-room)))),
-    room-of (r - half) near odd (lists .odd-room),
-  )
+  -- the even powers of x in a, cut to the places of an odd part
+  lies-cut : Lies (everySecond r (r - half) a rows) w
+  lies-cut = rw add-zero at (lies-second (room .first) (r - half) 0 (λ i d. omega (arith, near, half-double)) (omega arith))
     where
-      below : (i : ℕ) → i < r - half → 2 * i + 0 < r
-      below i d = omega (arith, near, half-double)
-        where
-          half-double : r ≤ half + half
-          half-double = rw eh (half-near r .2)
+      half-double : r ≤ half + half
+      half-double = rw eh (half-near r .2)
+
+  -- by blocks, in lists
+  module _ {left right : List ℕ} (factors : SpreadFactors p side left right) where
+    sources : (n b′ : ℕ) → n ≤ half → Lies (everySecond r n b′ more) w → Lies (everySecond r n a rows) w
+        → Source p turned (everySecond r n b′ more) w left × Few turned n more × Source p turned (everySecond r n a rows) w right
+    sources n b′ d lies lies′ = (
+      record {
+        modulus = room .first .modulus;
+        clean = factors .clean-left;
+        room = omega (arith, blocks-few side n half more d size turned et, factors .left-room);
+        lies = lies;
+      },
+      record { few = omega (arith, few-of n d) },
+      record {
+        modulus = room .first .modulus;
+        clean = factors .clean-right;
+        room = omega (arith, blocks-double side n half rows more d size (room .doubled) turned et, factors .right-room);
+        lies = lies′;
+      },
+    )
+
+    pub even-factors : Source p turned (everySecond r half b more) w left × Few turned half more × Source p turned (everySecond r half a rows) w right
+        × Room turned half count low even
+    even-factors =
+        let it = sources half b (le-refl half) (lies-even (room .second) eh) (lies-even (room .first) eh) in
+        (it .0, it .1, it .2, room-of half (le-refl half) even (lists .even-room))
+
+    pub odd-factors : Source p turned (everySecond r (r - half) (b + 1) more) w left × Few turned (r - half) more
+        × Source p turned (everySecond r (r - half) a rows) w right × Room turned (r - half) count low odd
+    odd-factors =
+        let it = sources (r - half) (b + 1) near (lies-odd (room .second) eh) lies-cut in
+        (it .0, it .1, it .2, room-of (r - half) near odd (lists .odd-room))
+
+  -- of long parts
+  multiplying : (n b′ : ℕ) {z : List ℕ} → n ≤ half → Lies (everySecond r n b′ more) w → Lies (everySecond r n a rows) w → side * side ≤ length z
+      → Multiplying p false (everySecond r n b′ more) w (everySecond r n a rows) w (resultsOf turned low count n) z
+  multiplying n b′ {z} d lies lies′ c = record {
+    modulus = room .first .modulus;
+    first = lies;
+    second = lies′;
+    first-fits = room .first .fits;
+    second-fits = room .first .fits;
+    few = few-of n d;
+    many = many-of n d;
+    short = omega (arith, few-places);
+    like = refl;
+    squared = record { part = λ e. absurd (false≢true e); list = λ e. absurd (false≢true e); first = λ e. absurd (false≢true e) };
+    results = omega (arith, mul-le-mul-left count d, results-fit, area);
+    room = room-of n d z c;
+  }
+
+  pub even-multiplying : Multiplying p false (everySecond r half b more) w (everySecond r half a rows) w (resultsOf turned low count half) even
+  even-multiplying = multiplying half b (le-refl half) (lies-even (room .second) eh) (lies-even (room .first) eh) (lists .even-room)
+
+  pub odd-multiplying : Multiplying p false (everySecond r (r - half) (b + 1) more) w (everySecond r (r - half) a rows) w
+      (resultsOf turned low count (r - half)) odd
+  odd-multiplying = multiplying (r - half) (b + 1) near (lies-odd (room .second) eh) lies-cut (lists .odd-room)
 
   -- the products of the parts, and the rows
-  module _ {even′ odd′ l l′ m m′ : List ℕ} (first : ProductPut p turned half count low (every r half b more w) (every r half a rows w) even even′ l m)
-      (second : ProductPut p turned (r - half) count low (every r (r - half) (b + 1) more w) (every r (r - half) a rows w) odd odd′ l′ m′) where
+  module _ {even′ odd′ : List ℕ} (first : even′ ≡ sets even 0 (packed turned half count (window low (cutProduct2At p (every r half b more w) (every r half a rows w)))))
+      (second : odd′ ≡ sets odd 0 (packed turned (r - half) count (window low (cutProduct2At p (every r (r - half) (b + 1) more w) (every r (r - half) a rows w))))) where
     abbrev A : ℕ → ℕ → ℕ
     A = rowsAt r w a rows
 
@@ -162,21 +224,21 @@ module _ {p r a rows b more low t count : ℕ} {w : List ℕ} (room : SpreadRoom
 
     -- the even part of a, cut to the places of an odd part
     cut : (j : ℕ) → AgreePlane (suc j) (r - half) (every r (r - half) a rows w) (evenPart A)
-    unfolding every
+    unfolding gridAt
     cut j k c i d =
         rw (lt-ltb i (r - half) d) (sym (rw (lt-ltb i half (omega (arith, near))) at (ap (λ s. s k i) (sym (rw (← eh) at (every-even r w a rows))))))
 
     even-at : (j i : ℕ) → j < count → i < half → packedAt turned half count even′ j i ≡ cutProduct2At p A B (low + j) (2 * i)
     unfolding cutProduct2At window
     even-at j i c d =
-        rw (first .put)
+        rw first
         (packed-at half count (window low (cutProduct2At p (every r half b more w) (every r half a rows w))) even even-fits turned j i c d
         ∙ rw (eh, every-even r w b more, every-even r w a rows, spread-even (low + j) i))
 
     odd-at : (j i : ℕ) → j < count → i < r - half → packedAt turned (r - half) count odd′ j i ≡ cutProduct2At p A B (low + j) (2 * i + 1)
     unfolding cutProduct2At window
     odd-at j i c d =
-        rw (second .put)
+        rw second
         (packed-at (r - half) count (window low (cutProduct2At p (every r (r - half) (b + 1) more w) (every r (r - half) a rows w))) odd odd-fits turned j i c d
         ∙ ap (λ s. s % p)
         (product2-agree (λ k e u f. refl) (cut (low + j)) (low + j) (lt-suc-self (low + j)) i d
@@ -189,10 +251,10 @@ module _ {p r a rows b more low t count : ℕ} {w : List ℕ} (room : SpreadRoom
     pub spread-putting : Putting p false r half (r - half) count even′ odd′
     spread-putting = record {
       halves = record {
-        even-room = rw (first .put, length-sets) even-fits;
-        odd-room = rw (second .put, length-sets) odd-fits;
-        even-below = λ k. rw (first .put) (packed-below half count _ even even-fits p (residue _ _) (lists .even-below) turned k);
-        odd-below = λ k. rw (second .put) (packed-below (r - half) count _ odd odd-fits p (residue _ _) (lists .odd-below) turned k);
+        even-room = rw (first, length-sets) even-fits;
+        odd-room = rw (second, length-sets) odd-fits;
+        even-below = λ k. rw first (packed-below half count _ even even-fits p (residue _ _) (lists .even-below) turned k);
+        odd-below = λ k. rw second (packed-below (r - half) count _ odd odd-fits p (residue _ _) (lists .odd-below) turned k);
       };
       few = omega (arith, results-fit, area);
       shorter = near;
@@ -231,21 +293,27 @@ module _ {p r a rows b more low t count : ℕ} {w : List ℕ} (room : SpreadRoom
         → w′ ≡ sets w t (plane r count (window low (cutProduct2At p A B)))
     spread-written e = e ∙ ap (sets w t) (plane-agree r count place-at)
 
+pub spread-made : {p : ℕ} → 0 < p → (side : ℕ) {even odd : List ℕ} → side ≤ 64 → Zeros (side * side) even → Zeros (side * side) odd
+    → SpreadLists p side even odd
+spread-made positive side few e o = record {
+  few = few;
+  even-room = rw (e .size) (le-refl _);
+  odd-room = rw (o .size) (le-refl _);
+  even-below = λ k. rw (e .blank k) positive;
+  odd-below = λ k. rw (o .blank k) positive;
+}
+
 pub spread-sized : {p : ℕ} → 0 < p → (r more side : ℕ) {left right even odd : List ℕ} → side ≤ 64 → more * ceilDiv r 2 ≤ side * side
     → Zeros (8 + (side * side + 8 * side)) left → Zeros (8 + (2 * (side * side) + 16 * side)) right → Zeros (side * side) even
     → Zeros (side * side) odd → SpreadSized p r more left right even odd
 spread-sized positive r more side few size l m e o = record {
   side = side;
-  lists = record {
-    few = few;
+  lists = spread-made positive side few e o;
+  factors = record {
     clean-left = zeros-clean positive l;
     clean-right = zeros-clean positive m;
     left-room = rw (l .size) (le-refl _);
     right-room = rw (m .size) (le-refl _);
-    even-room = rw (e .size) (le-refl _);
-    odd-room = rw (o .size) (le-refl _);
-    even-below = λ k. rw (e .blank k) positive;
-    odd-below = λ k. rw (o .blank k) positive;
   };
   size = size;
 }

@@ -1,13 +1,40 @@
-// Products of polynomials in x and y modulo p that stand in rows of a lent buffer, by even and odd powers of x (`grids`): a(x, y) a(-x, y), whose odd
-// powers vanish, and a(x^2, y) b(x, y), whose even and odd powers come from those of b. The factors are read before the target is written.
+// Products of polynomials in x and y modulo p that stand in rows of a lent buffer, by even and odd powers of x (`grids`, `double_karatsuba`): a(x, y) a(-x, y),
+// whose odd powers vanish, and a(x^2, y) b(x, y), whose even and odd powers come from those of b. The factors are read before the target is written.
+use double_karatsuba::Results;
+use grids::Grid;
 ghost use mathlib.Core.Path.{_≡_};
 ghost use Prim.Native.Nat.{_*_, _≤_};
 ghost use lib.Seq.{sets};
 ghost use Rattle.definition.specs.KinoshitaLi.{cutProduct2At, plane, window};
 ghost use Rattle.definition.specs.Lists.{ceilDiv};
 ghost use Rattle.double_product.specs.Opposite.{OppositeRoom, Sized, oppositeProduct};
-ghost use Rattle.double_product.specs.Rows.{rowsAt};
+ghost use Rattle.double_product.specs.Rows.{everySecond, resultsOf, rowsAt};
 ghost use Rattle.double_product.specs.Spread.{SpreadRoom, SpreadSized};
+
+// Every second place of the rows of r places: n places of each, the first at `at`.
+fn every_second(r: usize, n: usize, at: usize, rows: usize) -> Grid
+    ensures { λ g. ⌜ g ≡ everySecond r n at rows ⌝ }
+{
+    Grid {
+        at,
+        outer: r,
+        inner: 2,
+        count: rows,
+        length: n,
+    }
+}
+
+// The rows of a product from row `low` on, `count` of them, with m places of each.
+fn results(turned: bool, low: usize, count: usize, m: usize) -> Results
+    ensures { λ t. ⌜ t ≡ resultsOf turned low count m ⌝ }
+{
+    Results {
+        turned,
+        low,
+        rows: count,
+        places: m,
+    }
+}
 
 // The `count` rows of r places from t on become the first rows of a(x, y) a(-x, y), where a stands in the rows from `at` on. The lists are room.
 fn opposite_in(
@@ -27,20 +54,10 @@ fn opposite_in(
 {
     let half = number::rounded_up(r, 2);
     let turned = half < rows;
-    grids::square(p, turned, r, half, w, at, rows, half, count, left, even);
-    grids::square(
-        p,
-        turned,
-        r,
-        r - half,
-        w,
-        at + 1,
-        rows,
-        half - 1,
-        count,
-        left,
-        odd,
-    );
+    let e = every_second(r, half, at, rows);
+    let o = every_second(r, r - half, at + 1, rows);
+    grids::square(p, turned, e, w, half, count, left, even);
+    grids::square(p, turned, o, w, half - 1, count, left, odd);
     double_rows::put(p, true, turned, r, half, half - 1, count, even, odd, w, t);
 }
 
@@ -69,38 +86,12 @@ fn spread_in(
     let half = number::rounded_up(r, 2);
     let rest = r - half;
     let turned = half < more;
-    grids::product(
-        p,
-        turned,
-        r,
-        half,
-        w,
-        b,
-        more,
-        a,
-        rows,
-        low,
-        count,
-        left,
-        right,
-        even,
-    );
-    grids::product(
-        p,
-        turned,
-        r,
-        rest,
-        w,
-        b + 1,
-        more,
-        a,
-        rows,
-        low,
-        count,
-        left,
-        right,
-        odd,
-    );
+    let e = every_second(r, half, b, more);
+    let u = every_second(r, half, a, rows);
+    grids::product(p, turned, e, w, u, w, low, half, count, left, right, even);
+    let o = every_second(r, rest, b + 1, more);
+    let v = every_second(r, rest, a, rows);
+    grids::product(p, turned, o, w, v, w, low, rest, count, left, right, odd);
     double_rows::put(p, false, turned, r, half, rest, count, even, odd, w, t);
 }
 
@@ -131,10 +122,17 @@ fn opposite_large(p: u32, r: usize, w: &mut [u32], at: usize, rows: usize, t: us
     requires { ⌜ OppositeRoom p r at rows t count (now w) × (rows * ceilDiv r 2 ≤ 4096) ⌝ }
     ensures { λ s. ⌜ now (w .exit) ≡ sets (now (w .entry)) t (plane r count (oppositeProduct p (rowsAt r (now (w .entry)) at rows))) ⌝ }
 {
-    let mut left: [u64; 4616] = [0; 4616];
+    let half = number::rounded_up(r, 2);
+    let turned = half < rows;
     let mut even: [u32; 8192] = [0; 8192];
     let mut odd: [u32; 8192] = [0; 8192];
-    opposite_in(p, r, w, at, rows, t, count, &mut left, &mut even, &mut odd);
+    let e = every_second(r, half, at, rows);
+    let o = every_second(r, r - half, at + 1, rows);
+    let first = results(turned, 0, count, half);
+    let second = results(turned, 0, count, half - 1);
+    double_karatsuba::product(p, true, e, w, e, w, first, &mut even);
+    double_karatsuba::product(p, true, o, w, o, w, second, &mut odd);
+    double_rows::put(p, true, turned, r, half, half - 1, count, &even, &odd, w, t);
 }
 
 // The `count` rows of r places from t on become the first rows of a(x, y) a(-x, y), where a stands in the rows from `at` on.
@@ -247,26 +245,20 @@ fn spread_large(
     ensures { λ s. ⌜ now (w .exit) ≡ sets (now (w .entry)) t
         (plane r count (window low (cutProduct2At p (rowsAt r (now (w .entry)) a rows) (rowsAt r (now (w .entry)) b more)))) ⌝ }
 {
-    let mut left: [u64; 4616] = [0; 4616];
-    let mut right: [u64; 9224] = [0; 9224];
+    let half = number::rounded_up(r, 2);
+    let rest = r - half;
+    let turned = half < more;
     let mut even: [u32; 4096] = [0; 4096];
     let mut odd: [u32; 4096] = [0; 4096];
-    spread_in(
-        p,
-        r,
-        w,
-        a,
-        rows,
-        b,
-        more,
-        low,
-        t,
-        count,
-        &mut left,
-        &mut right,
-        &mut even,
-        &mut odd,
-    );
+    let e = every_second(r, half, b, more);
+    let u = every_second(r, half, a, rows);
+    let first = results(turned, low, count, half);
+    double_karatsuba::product(p, false, e, w, u, w, first, &mut even);
+    let o = every_second(r, rest, b + 1, more);
+    let v = every_second(r, rest, a, rows);
+    let second = results(turned, low, count, rest);
+    double_karatsuba::product(p, false, o, w, v, w, second, &mut odd);
+    double_rows::put(p, false, turned, r, half, rest, count, &even, &odd, w, t);
 }
 
 // The `count` rows of r places from t on become the rows from `low` on of the product of a polynomial in x^2 and y, in the rows from a on, and of one in x and y, in the
