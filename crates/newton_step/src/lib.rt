@@ -12,6 +12,9 @@ ghost use Rattle.newton_step.specs.Newton.{derivative, difference};
 ghost use Rattle.newton_step.specs.Step.{Reversed, StepLent, ValuePut};
 ghost use Rattle.route.specs.Contract.{Lent};
 
+// The largest order at which g(h) is computed by Horner's rule: up to about there it is quicker than route 4.
+const LARGEST_BY_HORNER: usize = 40;
+
 // Writes g(h) modulo p, cut to the places of h, from place 0 of w on. As h has no constant term, no more places of g matter than h has.
 fn put_value(p: u32, g: &[u32], h: &[u32], w: &mut [u32])
     requires { ⌜ (coefficient (now h) 0 ≡ 0) × Lent p (length (now h)) (length (now g)) (length (now w)) ⌝ }
@@ -19,7 +22,12 @@ fn put_value(p: u32, g: &[u32], h: &[u32], w: &mut [u32])
 {
     let n = h.len();
     let m = number::smaller(n, g.len());
-    kinoshita_li::kinoshita_li(p, n, &g[..m], h, w);
+    let f = &g[..m];
+    if n <= LARGEST_BY_HORNER {
+        horner::horner(p, n, f, h, w);
+        return;
+    }
+    kinoshita_li::kinoshita_li(p, n, f, h, w);
 }
 
 // Writes the first n places of the derivative of h modulo p from place t of w on.
