@@ -78,6 +78,10 @@ module _ (p n : ℕ) {e o m e′ o′ m′ : ℕ → ℕ} (evens : (k : ℕ) →
           let same : i ≡ 2 * (i / 2) + 1 = omega arith in
           rw (same, woven-odd, woven-odd, evens (i / 2) (omega arith), odds (i / 2) (omega arith), folds (i / 2) (omega arith))
 
+-- a column of a polynomial in rows
+abbrev pub column : (ℕ → ℕ → ℕ) → ℕ → ℕ → ℕ
+column f i j = f j i
+
 abbrev pub blocks : Results → Blocks
 blocks t = resultsOf (t .turned) (t .places) (t .rows)
 

@@ -8,14 +8,14 @@ ghost use lib.ListN.{length};
 ghost use lib.Seq.{sets};
 ghost use Rattle.definition.specs.KinoshitaLi.{plane};
 ghost use Rattle.definition.specs.Lists.{tabulate};
-ghost use Rattle.grids.specs.Parts.{Lies, facing, gridAt, packed};
+ghost use Rattle.grids.specs.Parts.{Lies, blockPlaces, facing, gridAt, packed};
 ghost use Rattle.double_karatsuba.specs.Halves.{evenHalf, foldedPart, lowerHalf, oddHalf, upper, upperHalf};
-ghost use Rattle.double_karatsuba.specs.Product.{Long, Multiplied, Multiplying};
+ghost use Rattle.double_karatsuba.specs.Product.{Few, Long, Multiplied, Multiplying};
 ghost use Rattle.double_karatsuba.specs.Rule.{folded};
-ghost use Rattle.double_karatsuba.specs.Weave.{Inside, Thirds, blocks, wovenPlane};
+ghost use Rattle.double_karatsuba.specs.Weave.{Thirds, blocks, column, wovenPlane};
 
 // Parts with more places are halved.
-const LONGEST_BY_BLOCKS: usize = 1024;
+const LONGEST_BY_BLOCKS: usize = 1100;
 
 // Some rows of a product, from row `low` on, and so many places of each, in blocks: its rows or, turned, its columns.
 pub struct Results {
@@ -162,26 +162,63 @@ fn woven_place(
     )
 }
 
-// Place k of block l of the product.
-fn woven_block_place(
+// Writes row j of the product at `at`, where the blocks are rows. Two places a turn: neither has a jump on what is read.
+fn weave_row(
     p: u32,
     t: Results,
     even: &[u32],
     odd: &[u32],
     sums: &[u32],
-    l: usize,
-    k: usize,
-) -> u32
-    requires { ⌜ Thirds p t (now even) (now odd) (now sums) × Inside t l k ⌝ }
-    ensures { λ r. ⌜ r ≡ facing (t .turned) (wovenPlane p t (now (even .entry)) (now (odd .entry)) (now (sums .entry))) l k ⌝ }
+    j: usize,
+    z: &mut [u32],
+    at: usize,
+)
+    requires { ⌜ Thirds p t (now even) (now odd) (now sums) × (t .turned ≡ false) × (j < t .rows) × (at + t .places ≤ length (now z)) ⌝ }
+    ensures { λ _. ⌜ now (z .exit) ≡ sets (now (z .entry)) at
+        (tabulate (t .places) (wovenPlane p t (now (even .entry)) (now (odd .entry)) (now (sums .entry)) j)) ⌝ }
 {
-    if t.turned {
-        return woven_place(p, t, even, odd, sums, k, l);
+    let half = t.places / 2;
+    let a = j * (t.places - half);
+    let b = j * half;
+    let mut before = 0;
+    let mut k = 0;
+    while k < half {
+        let e = even[a + k];
+        let o = odd[b + k];
+        let cross = parity::cross(p, sums[b + k], e, o);
+        z[at + 2 * k] = residue::sum(p, e, before);
+        z[at + 2 * k + 1] = cross;
+        before = o;
+        k += 1;
     }
-    woven_place(p, t, even, odd, sums, l, k)
+    if 2 * half < t.places {
+        z[at + 2 * half] = residue::sum(p, even[a + half], before);
+    }
 }
 
-// Writes block l of the product, of n places, at `at`.
+// Writes column i of the product at `at`.
+fn weave_column(
+    p: u32,
+    t: Results,
+    even: &[u32],
+    odd: &[u32],
+    sums: &[u32],
+    i: usize,
+    z: &mut [u32],
+    at: usize,
+)
+    requires { ⌜ Thirds p t (now even) (now odd) (now sums) × (i < t .places) × (at + t .rows ≤ length (now z)) ⌝ }
+    ensures { λ _. ⌜ now (z .exit) ≡ sets (now (z .entry)) at
+        (tabulate (t .rows) (column (wovenPlane p t (now (even .entry)) (now (odd .entry)) (now (sums .entry))) i)) ⌝ }
+{
+    let mut j = 0;
+    while j < t.rows {
+        z[at + j] = woven_place(p, t, even, odd, sums, j, i);
+        j += 1;
+    }
+}
+
+// Writes block l of the product at `at`.
 fn weave_block(
     p: u32,
     t: Results,
@@ -189,18 +226,17 @@ fn weave_block(
     odd: &[u32],
     sums: &[u32],
     l: usize,
-    n: usize,
     z: &mut [u32],
     at: usize,
 )
-    requires { ⌜ Thirds p t (now even) (now odd) (now sums) × (l < blocks t .count) × (n ≡ blocks t .length) × (at + n ≤ length (now z)) ⌝ }
+    requires { ⌜ Thirds p t (now even) (now odd) (now sums) × (l < blocks t .count) × (at + blocks t .length ≤ length (now z)) ⌝ }
     ensures { λ _. ⌜ now (z .exit) ≡ sets (now (z .entry)) at
-        (tabulate n (facing (t .turned) (wovenPlane p t (now (even .entry)) (now (odd .entry)) (now (sums .entry))) l)) ⌝ }
+        (tabulate (blocks t .length) (facing (t .turned) (wovenPlane p t (now (even .entry)) (now (odd .entry)) (now (sums .entry))) l)) ⌝ }
 {
-    let mut k = 0;
-    while k < n {
-        z[at + k] = woven_block_place(p, t, even, odd, sums, l, k);
-        k += 1;
+    if t.turned {
+        weave_column(p, t, even, odd, sums, l, z, at);
+    } else {
+        weave_row(p, t, even, odd, sums, l, z, at);
     }
 }
 
@@ -213,13 +249,49 @@ fn weave(p: u32, t: Results, even: &[u32], odd: &[u32], sums: &[u32], z: &mut [u
     let b = grids::results(t.turned, t.places, t.rows);
     let mut l = 0;
     while l < b.count {
-        weave_block(p, t, even, odd, sums, l, b.length, z, l * b.length);
+        weave_block(p, t, even, odd, sums, l, z, l * b.length);
         l += 1;
     }
 }
 
-// By blocks: the first places of z become the results.
-fn by_blocks(
+// By blocks, in short lists: the first places of z become the results.
+fn by_short_blocks(
+    p: u32,
+    square: bool,
+    g: Grid,
+    w: &[u32],
+    h: Grid,
+    v: &[u32],
+    t: Results,
+    z: &mut [u32],
+)
+    requires { ⌜ Multiplying p square g (now w) h (now v) t (now z) × Few (t .turned) g h 1616 ⌝ }
+    ensures { λ _. ⌜ Multiplied p g (now (w .entry)) h (now (v .entry)) t (now (z .entry)) (now (z .exit)) ⌝ }
+{
+    let mut left: [u64; 1624] = [0; 1624];
+    if square {
+        grids::square(p, t.turned, g, w, t.places, t.rows, &mut left, z);
+        return;
+    }
+    let mut right: [u64; 3240] = [0; 3240];
+    grids::product(
+        p,
+        t.turned,
+        g,
+        w,
+        h,
+        v,
+        t.low,
+        t.places,
+        t.rows,
+        &mut left,
+        &mut right,
+        z,
+    );
+}
+
+// By blocks, in lists for all that is required.
+fn by_long_blocks(
     p: u32,
     square: bool,
     g: Grid,
@@ -252,6 +324,41 @@ fn by_blocks(
         &mut right,
         z,
     );
+}
+
+// The places that a part takes in blocks, with eight zeros behind each.
+fn block_places(turned: bool, g: Grid) -> usize
+    requires { ⌜ blockPlaces turned (g .length) (g .count) < 2 ^ 64 ⌝ }
+    ensures { λ r. ⌜ r ≡ blockPlaces turned (g .length) (g .count) ⌝ }
+{
+    if turned {
+        g.length * (g.count + 8)
+    } else {
+        g.count * (g.length + 8)
+    }
+}
+
+// By blocks: the first places of z become the results. Lists are cleared when they are made, so that short parts take short lists.
+fn by_blocks(
+    p: u32,
+    square: bool,
+    g: Grid,
+    w: &[u32],
+    h: Grid,
+    v: &[u32],
+    t: Results,
+    z: &mut [u32],
+)
+    requires { ⌜ Multiplying p square g (now w) h (now v) t (now z) ⌝ }
+    ensures { λ _. ⌜ Multiplied p g (now (w .entry)) h (now (v .entry)) t (now (z .entry)) (now (z .exit)) ⌝ }
+{
+    if block_places(t.turned, g) <= 1616 {
+        if block_places(t.turned, h) <= 3232 {
+            by_short_blocks(p, square, g, w, h, v, t, z);
+            return;
+        }
+    }
+    by_long_blocks(p, square, g, w, h, v, t, z);
 }
 
 // Whether a part has few places, or too few in each row to be halved.
