@@ -5,6 +5,7 @@
 --   row-inside          a row ends where the rows do, or before
 --   filling-row         one row more of the rows of a polynomial is written
 --   source-row          that row too lies apart from what is read
+--   filling-held        which is as it was
 --   negative-reduced    -c modulo p, of a c that is reduced first
 --   place-inside held-inside   a coefficient of the polynomial in some rows is a place of the list
 -- Assumes nothing.
@@ -18,13 +19,14 @@ use lib.ListN.{length, getD}
 use lib.Arith.{digits-lt}
 use lib.Seq.{sets, length-sets}
 use Rattle.algebra.specs.Rows.{length-plane, planeAt-inside}
-use Rattle.definition.specs.KinoshitaLi.{negative, plane, planePlace}
+use Rattle.definition.specs.KinoshitaLi.{negative, plane, planeAt, planePlace}
 use Rattle.definition.specs.Lists.{coefficient, tabulate}
 use Rattle.product.specs.Planes.{held, plane-suc}
 use Rattle.buffer.specs.Filling.{Filling}
 use Rattle.buffer.specs.Segments.{Apart, segment, apart-length, apart-within, coefficient-segment}
 use Rattle.buffer.specs.Written.{sets-append}
 use Rattle.product.specs.declared.Rows.{Rows}
+use Rattle.route.specs.Filling.{filling-kept}
 
 abbrev pub Source : ℕ → Rows → ℕ → ℕ → List ℕ → Type 0
 Source r a t n w = Apart w (a .at) (a .count * r) t n
@@ -43,6 +45,10 @@ module _ (r : ℕ) (w : List ℕ) (a : Rows) {j i : ℕ} (row : j < a .count) (c
       sym (planeAt-inside r (segment w (a .at) (a .count * r)) j i column
       ∙ coefficient-segment w (a .at) (a .count * r) (j * r + i) (digits-lt row column)
       ∙ rw add-assoc)
+
+pub filling-held : {f : ℕ → ℕ} {t n : ℕ} {before now : List ℕ} {k : ℕ} → Filling f t n before now k → (r : ℕ) (a : Rows)
+    → Source r a t n before → held r now a ≡ held r before a
+filling-held filling r a apart = ap (planeAt r) (filling-kept filling apart)
 
 pub row-inside : (r : ℕ) {k n : ℕ} → k < n → k * r + r ≤ n * r
 row-inside r {k} below = omega (arith, mul-le-mul-right r below, suc-mul k r)
