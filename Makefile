@@ -44,7 +44,7 @@ ADD_PACKAGES := apt-get update && DEBIAN_FRONTEND=noninteractive apt-get install
 SEED := 1
 CALLS := 24000
 LARGEST := 4096
-JOBS := 4
+JOBS := 8
 
 .PHONY: test run program install bench bench-products stack flint clean toolchain tools
 .PHONY: formatted trace proofs second definitions wrong-definitions wrong-weights library linked c-interface installed joiner job-tool
@@ -78,7 +78,7 @@ trace: tools $(DEFINITIONS)
 	python3 -B tests/trace/contracts.py
 	python3 -B tests/trace/dependencies.py
 
-# from nothing: every crate is proved, every must-fail edit refused, every program run on its stored input; four at a time on two processors too,
+# from nothing: every crate is proved, every must-fail edit refused, every program run on its stored input; eight at a time on two processors too,
 # since rt waits for all of a batch before it starts the next
 proofs: toolchain
 	RT_JOBS=$(JOBS) rt ci

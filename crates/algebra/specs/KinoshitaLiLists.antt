@@ -9,7 +9,7 @@
 --   levels-list-composed       the levels on lists give the composition
 use Prim.Native.Nat.{ℕ, zero, suc, _+_, _-_, _<_, _≤_, _^_, min}
 use mathlib.Core.List.{List, [], _∷_, map, reverse, reverseAux}
-use mathlib.Core.Path.{_≡_, refl, sym, ap, fun-ext, _∙_}
+use mathlib.Core.Path.{_≡_, refl, sym, ap, ap₂, fun-ext, _∙_}
 use lib.ListN.{length, length-map, List·getD-map, drop, length-drop}
 use lib.Seq.{getD-drop}
 use native.Mathlib.Omega.{arith}
@@ -18,7 +18,7 @@ use Rattle.algebra.specs.Bridge.{series-of, listed, length-listed, coeff
 use Rattle.algebra.specs.Cut.{window, Degree, cut, cut-below, cut-beyond}
 use Rattle.algebra.specs.Evaluate.{evaluate, evaluate-map, polynomial}
 use Rattle.algebra.specs.Geometric.{denominator}
-use Rattle.algebra.specs.Graeffe.{graeffe-at}
+use Rattle.algebra.specs.Graeffe.{graeffe-at, squared}
 use Rattle.algebra.specs.Halvings.{halvings-covers}
 use Rattle.algebra.specs.Homomorphism.{coefficients-at, constants}
 use Rattle.algebra.specs.KinoshitaLi.{levels, levels-evaluate, denominator-degree, cut-graeffe}
@@ -27,6 +27,7 @@ use Rattle.algebra.specs.Negation.{Negation}
 use Rattle.algebra.specs.Plane.{Plane, AgreePlane, cut-plane, cut-plane-below, cut-plane-cut, cut-plane-𝟙, cut-plane-degree}
 use Rattle.algebra.specs.PlaneBridge.{
   plane-of,
+  reduced-plane,
   listed-plane,
   listed-plane-agree,
   listed-plane-row,
@@ -124,20 +125,27 @@ module _ {p : ℕ} (l : 0 < p) where
         (listed-agree λ j b.
         sym (cut-plane-below R (m - d) 1 _ j b 0 (omega arith) ∙ rw (coefficients-at (constants R), constant-0 R)))
 
+    -- the result U of the level below, as a list, with x^2 for x
+    squared-listed : (K h q d : ℕ) (U Q : List ℕ) (G : Plane (Residue p))
+        → U ≡ listed-plane h (m - d) (levels R N P m K h q d (plane-of l h Q)) → plane-of l h Q ≡ G
+        → reduced-plane l (Plain.squared (planeAt h U)) ≡ squared R (levels R N P m K h q d G)
+    squared-listed K h q d U Q G below v =
+        reduced-squared l (planeAt h U)
+        ∙ ap (squared R) (ap (plane-of l h) below ∙ plane-of-levels K h q d _ ∙ ap (levels R N P m K h q d) v)
+
     pub levels-listed : (K r q d : ℕ) (Q : List ℕ) → 0 < r → r ≤ 2 ^ K
         → levels-list p f K r q d Q ≡ listed-plane r (m - d) (levels R N P m K r q d (plane-of l r Q))
     unfolding levels-list levels ceilDiv
     levels-listed zero r q d Q a b = let e : r ≡ 1 = omega arith in rw e (last-listed q d Q)
     levels-listed (suc K) r q d Q a b =
         window-cutProduct2-listed l r (m - d) (d - (d - q)) _ _
-        ∙ rw (
-          reduced-squared l,
-          levels-listed K (ceilDiv r 2) (degreeBound m q) (d - q) (graeffe-list p m r q Q) (omega arith) (omega arith),
-          plane-of-levels,
-          graeffe-listed,
-          reduced-opposite l,
-        )
-        (listed-plane-agree r (m - d) (λ j c. agree-sym (cut-plane-below R (m - d) r _ j c)))
+        ∙ ap (λ s. listed-plane r (m - d) (window (d - (d - q)) s))
+        (ap₂ (series (series R) ._⊗_)
+        (squared-listed K (ceilDiv r 2) (degreeBound m q) (d - q) _ (graeffe-list p m r q Q) _
+        (levels-listed K (ceilDiv r 2) (degreeBound m q) (d - q) (graeffe-list p m r q Q) (omega arith) (omega arith))
+        (graeffe-listed r q Q))
+        (reduced-opposite l (planeAt r Q)))
+        ∙ listed-plane-agree r (m - d) (λ j c. agree-sym (cut-plane-below R (m - d) r _ j c))
 
     module _ (g : List ℕ) where
       abbrev Q₀ : Plane (Residue p)

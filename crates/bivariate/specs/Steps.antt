@@ -5,8 +5,8 @@
 --   row-inside          a row ends where the rows do, or before
 --   filling-row         one row more of the rows of a polynomial is written
 --   source-row          that row too lies apart from what is read
+--   filling-held        which is as it was
 --   negative-reduced    -c modulo p, of a c that is reduced first
---   constant-beyond denominator-beyond   powers that do not occur in a constant, and in 1 - y g
 --   place-inside held-inside   a coefficient of the polynomial in some rows is a place of the list
 -- Assumes nothing.
 use Prim.Native.Nat.{ℕ, zero, suc, _+_, _*_, _%_, _<_, _≤_}
@@ -19,14 +19,14 @@ use lib.ListN.{length, getD}
 use lib.Arith.{digits-lt}
 use lib.Seq.{sets, length-sets}
 use Rattle.algebra.specs.Rows.{length-plane, planeAt-inside}
-use Rattle.definition.specs.KinoshitaLi.{denominator, negative, plane, planePlace}
+use Rattle.definition.specs.KinoshitaLi.{negative, plane, planeAt, planePlace}
 use Rattle.definition.specs.Lists.{coefficient, tabulate}
-use Rattle.definition.specs.Substitution.{constant}
 use Rattle.product.specs.Planes.{held, plane-suc}
 use Rattle.buffer.specs.Filling.{Filling}
 use Rattle.buffer.specs.Segments.{Apart, segment, apart-length, apart-within, coefficient-segment}
 use Rattle.buffer.specs.Written.{sets-append}
 use Rattle.product.specs.declared.Rows.{Rows}
+use Rattle.route.specs.Filling.{filling-kept}
 
 abbrev pub Source : ℕ → Rows → ℕ → ℕ → List ℕ → Type 0
 Source r a t n w = Apart w (a .at) (a .count * r) t n
@@ -46,16 +46,9 @@ module _ (r : ℕ) (w : List ℕ) (a : Rows) {j i : ℕ} (row : j < a .count) (c
       ∙ coefficient-segment w (a .at) (a .count * r) (j * r + i) (digits-lt row column)
       ∙ rw add-assoc)
 
-pub constant-beyond : (c i : ℕ) → (i ≡ 0 → ⊥) → constant c i ≡ 0
-unfolding constant
-constant-beyond c zero h = absurd (h refl)
-constant-beyond c (suc i) h = refl
-
-pub denominator-beyond : (p : ℕ) (g : List ℕ) (j i : ℕ) → (j ≡ 0 → ⊥) → (j ≡ 1 → ⊥) → denominator p g j i ≡ 0
-unfolding denominator
-denominator-beyond p g zero i h l = absurd (h refl)
-denominator-beyond p g (suc zero) i h l = absurd (l refl)
-denominator-beyond p g (suc (suc j)) i h l = refl
+pub filling-held : {f : ℕ → ℕ} {t n : ℕ} {before now : List ℕ} {k : ℕ} → Filling f t n before now k → (r : ℕ) (a : Rows)
+    → Source r a t n before → held r now a ≡ held r before a
+filling-held filling r a apart = ap (planeAt r) (filling-kept filling apart)
 
 pub row-inside : (r : ℕ) {k n : ℕ} → k < n → k * r + r ≤ n * r
 row-inside r {k} below = omega (arith, mul-le-mul-right r below, suc-mul k r)

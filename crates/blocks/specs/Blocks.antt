@@ -36,7 +36,7 @@ use Rattle.definition.specs.KinoshitaLi.{cutProduct2At, plane, product2, produc
 use Rattle.definition.specs.Lists.{sum, tabulate}
 use Rattle.definition.specs.Substitution.{product, productTerm}
 use Rattle.planes.specs.Products.{square}
-use Rattle.remainder.specs.Sums.{remainderList}
+use Rattle.rows.specs.Sums.{remainderList}
 use Rattle.rows.specs.Rows.{Below, sum-+}
 use Rattle.summed_product.specs.Sums.{Sums, sums-added, sums-double, sums-remainders, sums-wider}
 use Rattle.summed_product.specs.Terms.{Added, added-wider, Padded, Pair, productOf, values}

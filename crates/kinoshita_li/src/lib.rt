@@ -10,7 +10,7 @@ fn fraction(p: u32, n: usize, q: usize, f: &[u32], g: &[u32], w: &mut [u32]) -> 
     requires { ⌜ FractionLent p n q (now f) (now w) ⌝ }
     ensures { λ s. ⌜ Fraction p n q (now (f .entry)) (now (g .entry)) (now (w .exit)) (s .places) ⌝ }
 {
-    bivariate::denominator(p, n, q + 1, g, w);
+    denominator::denominator(p, n, q + 1, g, w);
     levels::level(p, number::halvings(n), n, q, f.len() - 1, f, w)
 }
 

@@ -1,5 +1,5 @@
--- The largest prime that is a modulus, by the test of the table's rule: it passes trial division, and each number from there to 2^32 has a
--- divisor.
+-- The largest prime that is a modulus, by the test of the table's rule: no odd number below 65537 divides it, and one divides each number
+-- from there to 2^32.
 --
 --   largestPrime      4294967291
 --   largest-next      it is a prime below 2^32, and no prime lies between
@@ -17,13 +17,28 @@ use Rattle.definition.specs.Prime.{largestModulus}
 use Rattle.definition.specs.PrimeTable.{primeBelow}
 use Rattle.definition.specs.Refusal.{badModulus}
 use Rattle.field.specs.Opening.{good-modulus, prime-taken}
-use Rattle.primes.specs.Sieve.{Next, composites, oddTrial, quick, reach, sieved, sieved-next, next-below, trial}
+use Rattle.primes.specs.Sieve.{
+  Next,
+  composites,
+  coprime,
+  free,
+  gaps,
+  next-below,
+  oddTrial,
+  product,
+  quick,
+  reach,
+  rest,
+  sieved,
+  sieved-next,
+  trial,
+}
 
 abbrev pub largestPrime : ℕ
 largestPrime = 4294967291
 
 tested : sieved (2 ^ 32) (largestPrime ∷ []) ≡ true
-unfolding sieved composites quick oddTrial trial
+unfolding sieved free rest coprime product gaps composites quick oddTrial trial
 tested = refl
 
 within : 2 ^ 32 ≤ reach * reach

@@ -1,6 +1,6 @@
 -- The table of primes, and the largest prime that is a modulus.
 --
---   Sieve     a test by trial division that a list is the largest primes below a bound
+--   Sieve     a test, made to be computed, that a list is the largest primes below a bound
 --   Member    whether a number is an entry of a list
 --   Table     the table written out, and its rule by that test
 --   Largest   the largest prime below 2^32, by that test

@@ -1,5 +1,5 @@
--- The table of primes written out, and its rule, by one test that is computed: each entry passes trial division, and each number between
--- two neighbours has a divisor.
+-- The table of primes written out, and its rule, by one test that is computed: no odd number below 65537 divides an entry, and one
+-- divides each number between two neighbours.
 --
 --   table           the sixteen primes
 --   table-written   they are the table of the definitions
@@ -18,7 +18,22 @@ use Rattle.definition.specs.Prime.{Prime}
 use Rattle.definition.specs.PrimeTable.{TableRule, tableBound, primeTable}
 use Rattle.definition.specs.TableDetermined.{table-rule-determined}
 use Rattle.primes.specs.Member.{member, member-holds}
-use Rattle.primes.specs.Sieve.{Next, composites, oddTrial, quick, reach, sieved, sieved-below, sieved-next, trial}
+use Rattle.primes.specs.Sieve.{
+  Next,
+  composites,
+  coprime,
+  free,
+  gaps,
+  oddTrial,
+  product,
+  quick,
+  reach,
+  rest,
+  sieved,
+  sieved-below,
+  sieved-next,
+  trial,
+}
 
 unfoldable pub table : List ℕ
 table =
@@ -41,7 +56,7 @@ table =
     ∷ []
 
 tested : sieved tableBound table ≡ true
-unfolding sieved composites quick oddTrial trial table tableBound
+unfolding sieved free rest coprime product gaps composites quick oddTrial trial table tableBound
 tested = refl
 
 within : tableBound ≤ reach * reach

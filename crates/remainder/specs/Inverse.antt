@@ -28,7 +28,7 @@ use native.Mathlib.Nat.{
 }
 use native.Mathlib.Omega.{arith}
 use mathlib.Core.Path.{_≡_, sym, ap, _∙_}
-use Rattle.remainder.specs.Sums.{lowPart, part-whole}
+use Rattle.rows.specs.Sums.{lowPart, part-whole}
 use Rattle.residue.specs.Residue.{product-below}
 
 pub record Between (m : ℕ) : Type 0 where

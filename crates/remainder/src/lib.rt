@@ -5,7 +5,7 @@ ghost use Prim.Native.Nat.{_+_, _-_, _*_, _/_, _%_, _<_, _≤_, _^_};
 ghost use lib.ListN.{length};
 ghost use lib.Seq.{sets};
 ghost use Rattle.remainder.specs.Inverse.{Between};
-ghost use Rattle.remainder.specs.Sums.{Small, lowPart, remainderList};
+ghost use Rattle.rows.specs.Sums.{Small, lowPart, remainderList};
 
 // The remainder of 2^32 high + low modulo m by one division, where first is 2^32 and second is 2^64 modulo m.
 fn folded(m: u64, first: u64, second: u64, high: u64, low: u64) -> u32

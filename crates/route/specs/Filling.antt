@@ -2,19 +2,15 @@
 --
 --   filling-kept    a segment apart from the table is as it was
 --   filling-place   and each of its places
---   filling-held    and so is the polynomial in rows apart from it
 -- Assumes nothing.
-use Prim.Native.Nat.{ℕ, _+_, _*_, _<_}
+use Prim.Native.Nat.{ℕ, _+_, _<_}
 use mathlib.Core.List.{List}
 use mathlib.Core.Path.{_≡_, sym, ap, _∙_}
 use lib.ListN.{getD}
 use Rattle.algebra.specs.Lists.{length-tabulate}
 use Rattle.buffer.specs.Filling.{Filling}
-use Rattle.definition.specs.KinoshitaLi.{planeAt}
 use Rattle.definition.specs.Lists.{coefficient, tabulate}
-use Rattle.product.specs.Planes.{held}
 use Rattle.buffer.specs.Segments.{Apart, segment, coefficient-segment, segment-kept}
-use Rattle.product.specs.declared.Rows.{Rows}
 
 module _ {f : ℕ → ℕ} {t n : ℕ} {before now : List ℕ} {k : ℕ} (filling : Filling f t n before now k) where
   pub filling-kept : {a m : ℕ} → Apart before a m t n → segment now a m ≡ segment before a m
@@ -23,6 +19,3 @@ module _ {f : ℕ → ℕ} {t n : ℕ} {before now : List ℕ} {k : ℕ} (fillin
   pub filling-place : {a m : ℕ} → Apart before a m t n → (i : ℕ) → i < m → getD now (a + i) 0 ≡ coefficient (segment before a m) i
   unfolding coefficient
   filling-place {a} {m} apart i below = sym (coefficient-segment now a m i below) ∙ ap (λ l. getD l i 0) (filling-kept apart)
-
-  pub filling-held : (r : ℕ) (a : Rows) → Apart before (a .at) (a .count * r) t n → held r now a ≡ held r before a
-  filling-held r a apart = ap (planeAt r) (filling-kept apart)

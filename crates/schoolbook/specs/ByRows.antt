@@ -22,7 +22,7 @@ use Rattle.algebra.specs.Residue.{residues}
 use Rattle.buffer.specs.Written.{getD-sets-inside, getD-sets-other, part-sets}
 use Rattle.definition.specs.Lists.{tabulate, coefficient}
 use Rattle.definition.specs.Substitution.{product, cutProduct, cutProductAt}
-use Rattle.remainder.specs.Sums.{Small, remainderList}
+use Rattle.rows.specs.Sums.{Small, remainderList}
 use Rattle.rows.specs.Rows.{Below}
 use Rattle.summed_product.specs.Zeros.{Zeros}
 use Rattle.summed_product.specs.Sums.{Sums, sums-added, sums-none, sums-remainders, sums-small}

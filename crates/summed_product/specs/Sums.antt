@@ -14,7 +14,7 @@ use mathlib.Core.List.{List}
 use lib.ListN.{length, getD}
 use Rattle.algebra.specs.Lists.{tabulate-cong}
 use Rattle.definition.specs.Lists.{coefficient, tabulate}
-use Rattle.remainder.specs.Sums.{Small, lowPart, remainderAt, remainderList}
+use Rattle.rows.specs.Sums.{Small, lowPart, remainderAt, remainderList}
 use Rattle.rows.specs.Rows.{Kept, kept-double, kept-none, kept-wider}
 use Rattle.summed_product.specs.Terms.{Added}
 

@@ -5,7 +5,7 @@ use mathlib.Core.Path.{_∙_}
 use Rattle.buffer.specs.Filling.{Filling, filling-first, filling-last, filling-next}
 use Rattle.definition.specs.KinoshitaLi.{evenPart}
 use Rattle.product.specs.Planes.{held}
-use Rattle.route.specs.Filling.{filling-held}
+use Rattle.bivariate.specs.Steps.{filling-held}
 use Rattle.bivariate.proofs.even_row.Statement.{statement}
 use Rattle.bivariate.proofs.even_row.Tie as tie
 

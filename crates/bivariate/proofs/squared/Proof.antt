@@ -7,8 +7,7 @@ use mathlib.Core.Path.{_∙_}
 use Rattle.buffer.specs.Filling.{Filling, filling-first, filling-last}
 use Rattle.definition.specs.KinoshitaLi.{plane, planePlace, squared}
 use Rattle.product.specs.Planes.{held}
-use Rattle.route.specs.Filling.{filling-held}
-use Rattle.bivariate.specs.Steps.{Source, filling-row, source-row}
+use Rattle.bivariate.specs.Steps.{Source, filling-held, filling-row, source-row}
 use Rattle.bivariate.proofs.squared.Statement.{statement}
 use Rattle.bivariate.proofs.squared.Tie as tie
 

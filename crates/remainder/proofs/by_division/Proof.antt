@@ -8,7 +8,7 @@ use Rattle.buffer.specs.Filling.{Filling, filling-first, filling-last, filling-
 use Rattle.residue.specs.Residue.{product-below}
 use Rattle.definition.specs.Lists.{coefficient}
 use Rattle.remainder.specs.Division.{second-power}
-use Rattle.remainder.specs.Sums.{remainderAt, remainderList}
+use Rattle.rows.specs.Sums.{remainderAt, remainderList}
 use Rattle.remainder.proofs.by_division.Statement.{statement}
 use Rattle.remainder.proofs.by_division.Tie as tie
 

@@ -5,7 +5,7 @@ use native.Mathlib.Omega.{arith}
 use Prim.Native.Nat.{_-_}
 use Rattle.buffer.specs.Filling.{Filling, filling-first, filling-last, filling-next}
 use Rattle.definition.specs.Lists.{coefficient}
-use Rattle.remainder.specs.Sums.{remainderAt, remainderList}
+use Rattle.rows.specs.Sums.{remainderAt, remainderList}
 use Rattle.remainder.proofs.by_inverse.Statement.{statement}
 use Rattle.remainder.proofs.by_inverse.Tie as tie
 

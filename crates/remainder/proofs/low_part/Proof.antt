@@ -1,7 +1,7 @@
 -- `remainder::low_part` meets its contract. Assumes nothing.
 use borrow.Author.Needs.{needs}
 use Prim.Native.Nat.{_<_, _^_}
-use Rattle.remainder.specs.Sums.{low-part}
+use Rattle.rows.specs.Sums.{low-part}
 use Rattle.remainder.proofs.low_part.Statement.{statement}
 use Rattle.remainder.proofs.low_part.Tie as tie
 

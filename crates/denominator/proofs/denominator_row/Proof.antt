@@ -1,10 +1,10 @@
--- `bivariate::denominator_row` meets its contract. Assumes nothing.
+-- `denominator::denominator_row` meets its contract. Assumes nothing.
 use borrow.Author.Needs.{needs}
 use Prim.Native.Nat.{_-_}
 use Rattle.buffer.specs.Filling.{Filling, filling-first, filling-last, filling-next}
 use Rattle.definition.specs.KinoshitaLi.{denominator}
-use Rattle.bivariate.proofs.denominator_row.Statement.{statement}
-use Rattle.bivariate.proofs.denominator_row.Tie as tie
+use Rattle.denominator.proofs.denominator_row.Statement.{statement}
+use Rattle.denominator.proofs.denominator_row.Tie as tie
 
 abbrev Inv-loop : tie.InvT-loop
 Inv-loop p n g j w₀ t i₀ w i = Filling (denominator p g j) t n w₀ w i

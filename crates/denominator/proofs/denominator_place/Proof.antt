@@ -1,11 +1,11 @@
--- `bivariate::denominator_place` meets its contract, by the power of y. Assumes nothing.
+-- `denominator::denominator_place` meets its contract, by the power of y. Assumes nothing.
 use borrow.Author.Needs.{needs}
 use mathlib.Core.Path.{sym, _∙_}
 use Rattle.definition.specs.KinoshitaLi.{denominator}
 use Rattle.definition.specs.Substitution.{constant}
-use Rattle.bivariate.specs.Steps.{constant-beyond, denominator-beyond}
-use Rattle.bivariate.proofs.denominator_place.Statement.{statement}
-use Rattle.bivariate.proofs.denominator_place.Tie as tie
+use Rattle.denominator.specs.Powers.{constant-beyond, denominator-beyond}
+use Rattle.denominator.proofs.denominator_place.Statement.{statement}
+use Rattle.denominator.proofs.denominator_place.Tie as tie
 
 returns : tie.Need-returns
 unfolding denominator constant

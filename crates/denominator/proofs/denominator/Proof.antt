@@ -1,4 +1,4 @@
--- `bivariate::denominator` meets its contract: after j turns the first j rows are written. Assumes nothing.
+-- `denominator::denominator` meets its contract: after j turns the first j rows are written. Assumes nothing.
 use borrow.Author.Needs.{needs}
 use native.Mathlib.Omega.{arith}
 use Prim.Native.Nat.{_+_, _*_, _-_, _≤_}
@@ -6,9 +6,9 @@ use native.Mathlib.Nat.{mul-le-mul-right, zero-add, zero-mul}
 use lib.ListN.{length}
 use Rattle.buffer.specs.Filling.{Filling, filling-first, filling-last}
 use Rattle.definition.specs.KinoshitaLi.{denominator, plane, planePlace}
 use Rattle.bivariate.specs.Steps.{filling-row, row-inside}
-use Rattle.bivariate.proofs.denominator.Statement.{statement}
-use Rattle.bivariate.proofs.denominator.Tie as tie
+use Rattle.denominator.proofs.denominator.Statement.{statement}
+use Rattle.denominator.proofs.denominator.Tie as tie
 
 abbrev Inv-loop : tie.InvT-loop
 Inv-loop p n count g w₀ j₀ w j = Filling (planePlace n (denominator p g)) 0 (count * n) w₀ w (j * n)
