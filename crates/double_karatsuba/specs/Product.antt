@@ -61,6 +61,8 @@ pub record Multiplying (p : ℕ) (square : Bool) (g : Grid) (w : List ℕ) (h : 
   pub few : blockPlaces (t .turned) (g .length) (g .count) ≤ 4608
   pub many : blockPlaces (t .turned) (h .length) (h .count) ≤ 9216
   pub short : g .length ≤ 2 ^ 30
+  pub rows : g .count ≤ 2 ^ 30
+  pub more : h .count ≤ 2 ^ 30
   pub like : h .length ≡ g .length
   pub squared : Squared square g w h v (t .low)
   pub results : t .rows * t .places ≤ 8192
@@ -186,6 +188,8 @@ module _ {p : ℕ} {square : Bool} {g : Grid} {w : List ℕ} {h : Grid} {v : Lis
       few = omega (arith, m .few, blocks-fewer (t .turned) {m = upper (g .length)} {n = g .length} (g .count) (omega arith));
       many = omega (arith, m .many, blocks-fewer (t .turned) {m = upper (h .length)} {n = h .length} (h .count) (omega arith));
       short = omega (arith, m .short);
+      rows = m .rows;
+      more = m .more;
       like = ap upper (m .like);
       squared = squared-by (λ e. ap evenHalf (m .squared .part e)) (m .squared .list);
       results = omega (arith, upper-results);
@@ -202,6 +206,8 @@ module _ {p : ℕ} {square : Bool} {g : Grid} {w : List ℕ} {h : Grid} {v : Lis
       few = omega (arith, m .few, blocks-fewer (t .turned) {m = g .length / 2} {n = g .length} (g .count) (omega arith));
       many = omega (arith, m .many, blocks-fewer (t .turned) {m = h .length / 2} {n = h .length} (h .count) (omega arith));
       short = omega (arith, m .short);
+      rows = m .rows;
+      more = m .more;
       like = ap (λ n. n / 2) (m .like);
       squared = squared-by (λ e. ap oddHalf (m .squared .part e)) (m .squared .list);
       results = omega (arith, lower-results);
@@ -232,6 +238,8 @@ module _ {p : ℕ} {square : Bool} {g : Grid} {w : List ℕ} {h : Grid} {v : Lis
         few = omega (arith, m .few, blocks-fewer (t .turned) {m = upper (g .length)} {n = g .length} (g .count) (omega arith));
         many = omega (arith, m .many, blocks-fewer (t .turned) {m = upper (h .length)} {n = h .length} (h .count) (omega arith));
         short = omega (arith, m .short);
+        rows = m .rows;
+        more = m .more;
         like = ap upper (m .like);
         squared = squared-by (λ e. ap foldedPart (m .squared .part e)) (λ e. rw (first, second, m .squared .part e, m .squared .list e));
         results = omega (arith, lower-results);
@@ -267,6 +275,7 @@ module _ {p : ℕ} {square : Bool} {g : Grid} {w : List ℕ} {h : Grid} {v : Lis
 
         pub thirds : Thirds p t even odd sums
         thirds = record {
+          modulus = m .modulus;
           few = omega (arith, m .results);
           evens = third _ _ _ upper-room evens;
           odds = third _ _ _ lower-room odds;

@@ -4,9 +4,12 @@
 --   wovenPlane             the polynomial that is woven from them
 --   woven-cross woven-first woven-next   its places at odd powers of x, at x^0 and at other even ones
 --   woven-agree            it depends on places of the three that are there
+--   row-needs row-fits row-woven   a row of it: what `parity::weave` requires, and that it leaves the row
+--   column f i             a column of a polynomial
 --   blocks t               the blocks of the results
---   Inside t l k           place k of block l is one of them (inside-turned, inside-straight)
+--   block-turned block-straight   block l is a column, or a row
 --   woven-packed           the blocks one after the other hold the polynomial
+--   block-next             one block more has been written
 --   block-fits             each fits where the results do
 -- Assumes nothing.
 use Prim.Native.Nat.{ℕ, zero, suc, _+_, _-_, _*_, _/_, _%_, _<_, _≤_, _^_}
@@ -15,15 +18,17 @@ use native.Mathlib.Omega.{arith}
 use borrow.Author.Tests.{eq-eqb, ne-eqb}
 use mathlib.Core.Bool.{Bool, false, true}
 use mathlib.Core.List.{List}
-use mathlib.Core.Path.{_≡_, refl}
+use mathlib.Core.Path.{_≡_, refl, sym, ap, _∙_}
 use lib.ListN.{length, getD}
+use lib.Seq.{sets}
 use Rattle.blocks.specs.declared.Blocks.{Blocks}
 use Rattle.definition.specs.KinoshitaLi.{negative, plane}
+use Rattle.definition.specs.Lists.{coefficient, tabulate}
 use Rattle.double_rows.specs.Places.{packedAt}
 use Rattle.grids.specs.Parts.{facing, packed, resultsOf}
-use Rattle.parity.specs.Weave.{delayed, woven-even, woven-odd, wovenAt}
+use Rattle.parity.specs.Weave.{Woven, delayed, woven, woven-even, woven-odd, wovenAt}
 use Rattle.double_karatsuba.specs.Halves.{upper}
-use Rattle.double_karatsuba.specs.Packed.{rows-fit}
+use Rattle.double_karatsuba.specs.Packed.{rows-fit, rows-next}
 use Rattle.double_karatsuba.specs.declared.Results.{Results}
 
 pub record Third (p m count : ℕ) (l : List ℕ) : Type 0 where
@@ -31,6 +36,7 @@ pub record Third (p m count : ℕ) (l : List ℕ) : Type 0 where
   pub below : (k : ℕ) → getD l k 0 < p
 
 pub record Thirds (p : ℕ) (t : Results) (even odd sums : List ℕ) : Type 0 where
+  pub modulus : 0 < p
   pub few : t .rows * t .places < 2 ^ 64
   pub evens : Third p (upper (t .places)) (t .rows) even
   pub odds : Third p (t .places / 2) (t .rows) odd
@@ -78,6 +84,38 @@ module _ (p n : ℕ) {e o m e′ o′ m′ : ℕ → ℕ} (evens : (k : ℕ) →
           let same : i ≡ 2 * (i / 2) + 1 = omega arith in
           rw (same, woven-odd, woven-odd, evens (i / 2) (omega arith), odds (i / 2) (omega arith), folds (i / 2) (omega arith))
 
+-- a row, where the blocks are rows
+module _ {p : ℕ} {t : Results} {even odd sums : List ℕ} (thirds : Thirds p t even odd sums) (straight : t .turned ≡ false) {j : ℕ} (inside : j < t .rows) where
+  abbrev half : ℕ
+  half = t .places / 2
+
+  even-fits : j * upper (t .places) + upper (t .places) ≤ length even
+  even-fits = rows-fit (upper (t .places)) (t .rows) j (thirds .evens .room) inside
+
+  half-fits : {l : List ℕ} → Third p half (t .rows) l → j * half + half ≤ length l
+  half-fits third = rows-fit half (t .rows) j (third .room) inside
+
+  pub row-needs : {z : List ℕ} {at : ℕ} → at + t .places ≤ length z
+      → Woven p (t .places) even (j * upper (t .places)) odd (j * half) sums (j * half) z at
+  unfolding coefficient
+  row-needs room = record {
+    modulus = thirds .modulus;
+    evens = even-fits;
+    odds = half-fits (thirds .odds);
+    folds = half-fits (thirds .folds);
+    target = room;
+    even-small = λ k h. thirds .evens .below _;
+    odd-small = λ k h. thirds .odds .below _;
+    fold-small = λ k h. thirds .folds .below _;
+  }
+
+  pub row-fits : (j * upper (t .places) ≤ length even) × (j * half ≤ length odd)
+  row-fits = (omega (arith, even-fits), omega (arith, half-fits (thirds .odds)))
+
+  pub row-woven : wovenPlane p t even odd sums j ≡ woven p even (j * upper (t .places)) odd (j * half) sums (j * half)
+  unfolding wovenPlane packedAt
+  row-woven = rw straight
+
 -- a column of a polynomial in rows
 abbrev pub column : (ℕ → ℕ → ℕ) → ℕ → ℕ → ℕ
 column f i j = f j i
@@ -85,18 +123,15 @@ column f i j = f j i
 abbrev pub blocks : Results → Blocks
 blocks t = resultsOf (t .turned) (t .places) (t .rows)
 
-pub record Inside (t : Results) (l k : ℕ) : Type 0 where
-  pub block : l < blocks t .count
-  pub place : k < blocks t .length
-
-module _ {t : Results} {l k : ℕ} (inside : Inside t l k) where
-  pub inside-turned : t .turned ≡ true → (k < t .rows) × (l < t .places)
+-- block l is a column, or a row
+module _ (t : Results) {l : ℕ} (below : l < blocks t .count) where
+  pub block-turned : t .turned ≡ true → (l < t .places) × (blocks t .length ≡ t .rows)
   unfolding resultsOf
-  inside-turned e = (rw e at (inside .place), rw e at (inside .block))
+  block-turned e = (rw e at below, rw e)
 
-  pub inside-straight : t .turned ≡ false → (l < t .rows) × (k < t .places)
+  pub block-straight : t .turned ≡ false → (l < t .rows) × (blocks t .length ≡ t .places)
   unfolding resultsOf
-  inside-straight e = (rw e at (inside .block), rw e at (inside .place))
+  block-straight e = (rw e at below, rw e)
 
 -- the blocks, one after the other
 pub woven-packed : (t : Results) (W : ℕ → ℕ → ℕ) → plane (blocks t .length) (blocks t .count) (facing (t .turned) W) ≡ packed (t .turned) (t .places) (t .rows) W
@@ -117,3 +152,11 @@ blocks-room t n = go (t .turned)
 
 pub block-fits : (t : Results) {n : ℕ} → t .rows * t .places ≤ n → {b : Blocks} → b ≡ blocks t → {l : ℕ} → l < b .count → l * b .length + b .length ≤ n
 block-fits t {n} h {b} e {l} below = rows-fit (b .length) (b .count) l (rw e (blocks-room t n h)) below
+
+-- one block more has been written
+pub block-next : (t : Results) (W : ℕ → ℕ → ℕ) {b : Blocks} → b ≡ blocks t → {z z′ : List ℕ} (z₀ : List ℕ) (l : ℕ)
+    → z ≡ sets z₀ 0 (plane (b .length) l (facing (t .turned) W)) → z′ ≡ sets z (l * b .length) (tabulate (blocks t .length) (facing (t .turned) W l))
+    → z′ ≡ sets z₀ 0 (plane (b .length) (l + 1) (facing (t .turned) W))
+block-next t W {b} e {z} z₀ l h f =
+    rows-next z₀ (b .length) l (facing (t .turned) W) h
+    (f ∙ ap (λ n. sets z (l * b .length) (tabulate n (facing (t .turned) W l))) (ap (λ c. c .length) (sym e)))

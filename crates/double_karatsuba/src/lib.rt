@@ -162,7 +162,7 @@ fn woven_place(
     )
 }
 
-// Writes row j of the product at `at`, where the blocks are rows. Two places a turn: neither has a jump on what is read.
+// Writes row j of the product at `at`, where the blocks are rows.
 fn weave_row(
     p: u32,
     t: Results,
@@ -180,20 +180,7 @@ fn weave_row(
     let half = t.places / 2;
     let a = j * (t.places - half);
     let b = j * half;
-    let mut before = 0;
-    let mut k = 0;
-    while k < half {
-        let e = even[a + k];
-        let o = odd[b + k];
-        let cross = parity::cross(p, sums[b + k], e, o);
-        z[at + 2 * k] = residue::sum(p, e, before);
-        z[at + 2 * k + 1] = cross;
-        before = o;
-        k += 1;
-    }
-    if 2 * half < t.places {
-        z[at + 2 * half] = residue::sum(p, even[a + half], before);
-    }
+    parity::weave(p, t.places, even, a, odd, b, sums, b, z, at);
 }
 
 // Writes column i of the product at `at`.
@@ -328,7 +315,7 @@ fn by_long_blocks(
 
 // The places that a part takes in blocks, with eight zeros behind each.
 fn block_places(turned: bool, g: Grid) -> usize
-    requires { ⌜ blockPlaces turned (g .length) (g .count) < 2 ^ 64 ⌝ }
+    requires { ⌜ (g .length ≤ 2 ^ 30) × (g .count ≤ 2 ^ 30) × (blockPlaces turned (g .length) (g .count) < 2 ^ 64) ⌝ }
     ensures { λ r. ⌜ r ≡ blockPlaces turned (g .length) (g .count) ⌝ }
 {
     if turned {

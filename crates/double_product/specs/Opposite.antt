@@ -155,6 +155,8 @@ module _ {p r at rows t count : ℕ} {w : List ℕ} (room : OppositeRoom p r at 
     few = few-of n b;
     many = omega (arith, few-of n b);
     short = omega (arith, few-places bounds (room .reading .some));
+    rows = omega (arith, few-rows bounds);
+    more = omega (arith, few-rows bounds);
     like = refl;
     squared = record { part = λ e. refl; list = λ e. refl; first = λ e. refl };
     results = omega (arith, mul-le-mul-left count c, results-fit bounds, area bounds);

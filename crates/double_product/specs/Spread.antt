@@ -124,11 +124,14 @@ module _ {p r a rows b more low t count : ℕ} {w : List ℕ} (room : SpreadRoom
   few-places : half ≤ 4096
   few-places = omega (arith, area, size, mul-le-mul-right half (room .second .some), one-mul half)
 
+  few-rows : more ≤ 4096
+  few-rows = omega (arith, area, size, mul-le-mul-left more positive, mul-one more)
+
   room-of : (m : ℕ) → m ≤ half → (z : List ℕ) → side * side ≤ length z → Room turned m count low z
   room-of m d z c = record {
     room = omega (arith, mul-le-mul-left count d, results-fit);
     places = omega (arith, few-places);
-    rows = omega (arith, room .window, room .few, area, size, mul-le-mul-left more positive, mul-one more);
+    rows = omega (arith, room .window, room .few, few-rows);
   }
 
   -- the even powers of x in a, cut to the places of an odd part
@@ -182,6 +185,8 @@ module _ {p r a rows b more low t count : ℕ} {w : List ℕ} (room : SpreadRoom
     few = few-of n d;
     many = many-of n d;
     short = omega (arith, few-places);
+    rows = omega (arith, few-rows);
+    more = omega (arith, few-rows, room .doubled);
     like = refl;
     squared = record { part = λ e. absurd (false≢true e); list = λ e. absurd (false≢true e); first = λ e. absurd (false≢true e) };
     results = omega (arith, mul-le-mul-left count d, results-fit, area);

@@ -4,13 +4,13 @@
 --   rule               a list that holds the three products, woven, is the product
 -- Assumes nothing.
 use Prim.Native.Nat.{ℕ, zero, suc, _+_, _-_, _*_, _/_, _%_, _<_, _≤_}
-use native.Mathlib.Nat.{add-zero, mod-mod, zero-mod}
+use native.Mathlib.Nat.{add-zero, mod-mod, zero-add, zero-mod}
 use native.Mathlib.Numerals.{add-one}
 use native.Mathlib.Omega.{arith}
 use mathlib.Core.List.{List}
 use mathlib.Core.Path.{_≡_, refl, sym, ap, _∙_}
 use lib.ListN.{drop, take}
-use lib.Seq.{getD-take}
+use lib.Seq.{getD-drop, getD-take}
 use Rattle.algebra.specs.Agree.{Agree, agree-⊠}
 use Rattle.algebra.specs.Alternate.{even, odd}
 use Rattle.algebra.specs.Bridge.{coefficient-listed, cutProduct-listed, length-listed, listed, listed-agree, residue-series, series-of}
@@ -23,7 +23,7 @@ use Rattle.algebra.specs.Series.{Series, indeterminate-⊠, neg-at, shift, shif
 use Rattle.definition.specs.Lists.{coefficient, tabulate}
 use Rattle.definition.specs.Substitution.{cutProduct}
 use Rattle.parity.specs.Halves.{neighbourSum, part, partAt, second}
-use Rattle.parity.specs.Weave.{delayed, woven, wovenAt, woven-even, woven-odd}
+use Rattle.parity.specs.Weave.{delayed, placesFrom, woven, wovenAt, woven-even, woven-odd}
 
 module _ {p : ℕ} (l : 0 < p) (a b : Series (Residue p)) (n : ℕ) (e o m : ℕ → ℕ) where
   infixl 50 _⊞_
@@ -113,19 +113,27 @@ module _ {p : ℕ} (l : 0 < p) where
   pub cutProduct-taken : (c : ℕ) (xs ys : List ℕ) → cutProduct p c (take c xs) (take c ys) ≡ cutProduct p c xs ys
   cutProduct-taken c xs ys = product-listed (take c xs) (take c ys) (taken-agree c xs) (taken-agree c ys) ∙ sym (cutProduct-listed l c xs ys)
 
+  after : (r : List ℕ) (a i : ℕ) → placesFrom r a i ≡ coefficient (drop a r) i
+  unfolding coefficient
+  after r a i = sym (rw getD-drop)
+
   pub rule : (n : ℕ) (xs ys r : List ℕ)
       → take (n - n / 2) r ≡ cutProduct p (n - n / 2) (part p n 0 (n - n / 2) xs) (part p n 0 (n - n / 2) ys)
       → take (n / 2) (drop (n - n / 2) r) ≡ cutProduct p (n / 2) (part p n 1 (n / 2) xs) (part p n 1 (n / 2) ys)
       → take (n / 2) (drop n r) ≡ cutProduct p (n / 2) (part p n 2 (n / 2) xs) (part p n 2 (n / 2) ys)
-      → tabulate n (woven p n r) ≡ cutProduct p n xs ys
+      → tabulate n (woven p r 0 r (n - n / 2) r n) ≡ cutProduct p n xs ys
   rule n xs ys r e o m =
       sym (cutProduct-listed l n xs ys
-      ∙ table-of n (woven p n r) _ (length-listed n _)
+      ∙ table-of n (woven p r 0 r (n - n / 2) r n) _ (length-listed n _)
       (λ k h. coefficient-listed n _ k h ∙ sym (woven-product l (series-of l xs) (series-of l ys) n _ _ _ thirds k h)))
     where
-      thirds : Thirds l (series-of l xs) (series-of l ys) n (coefficient r) (coefficient (drop (n - n / 2) r)) (coefficient (drop n r))
+      thirds : Thirds l (series-of l xs) (series-of l ys) n (placesFrom r 0) (placesFrom r (n - n / 2)) (placesFrom r n)
       thirds = record {
-        evens = product-place (part p n 0 (n - n / 2) xs) (part p n 0 (n - n / 2) ys) (evens-agree n xs) (evens-agree n ys) r e;
-        odds = product-place (part p n 1 (n / 2) xs) (part p n 1 (n / 2) ys) (odds-agree n xs) (odds-agree n ys) (drop (n - n / 2) r) o;
-        sums = product-place (part p n 2 (n / 2) xs) (part p n 2 (n / 2) ys) (sums-agree n xs) (sums-agree n ys) (drop n r) m;
+        evens = λ i h.
+            rw zero-add (product-place (part p n 0 (n - n / 2) xs) (part p n 0 (n - n / 2) ys) (evens-agree n xs) (evens-agree n ys) r e i h);
+        odds = λ i h.
+            after r (n - n / 2) i
+            ∙ product-place (part p n 1 (n / 2) xs) (part p n 1 (n / 2) ys) (odds-agree n xs) (odds-agree n ys) (drop (n - n / 2) r) o i h;
+        sums = λ i h.
+            after r n i ∙ product-place (part p n 2 (n / 2) xs) (part p n 2 (n / 2) ys) (sums-agree n xs) (sums-agree n ys) (drop n r) m i h;
       }

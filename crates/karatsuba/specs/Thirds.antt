@@ -4,7 +4,6 @@
 --   thirds-product     and what it leaves is the product
 -- Assumes nothing.
 use Prim.Native.Nat.{ℕ, _+_, _-_, _/_, _<_, _≤_}
-use native.Mathlib.Decide.{decLt}
 use native.Mathlib.Nat.{mod-lt}
 use native.Mathlib.Omega.{arith}
 use mathlib.Core.List.{List}
@@ -50,20 +49,19 @@ module _ {p n : ℕ} {x u y v z r x₁ y₁ r₁ x₂ y₂ r₂ x₃ y₃ r₃ :
   sum-product = sums .product ∙ rw (odds .left, evens .left, odds .right, evens .right)
 
   module _ (z₃ : List ℕ) (size-z : length z₃ ≡ length z) where
-    pub thirds-woven : Woven p n r₃ z₃
+    pub thirds-woven : Woven p n r₃ 0 r₃ (n - n / 2) r₃ n z₃ 0
     thirds-woven = record {
       modulus = room .modulus;
-      source = omega (arith, room .lists .products);
+      evens = omega (arith, room .lists .products);
+      odds = omega (arith, room .lists .products);
+      folds = omega (arith, room .lists .products);
       target = omega (arith, room .lists .target);
-      small = λ k h. at k h (decLt k (n - n / 2)) (decLt k n);
+      even-small = λ k h. product-residue 0 (n - n / 2) r₃ _ _ (room .modulus) even-product (0 + k) (omega arith) (omega arith);
+      odd-small = λ k h. product-residue (n - n / 2) (n / 2) r₃ _ _ (room .modulus) odd-product (n - n / 2 + k) (omega arith) (omega arith);
+      fold-small = λ k h. product-residue n (n / 2) r₃ _ _ (room .modulus) sum-product (n + k) (omega arith) (omega arith);
     }
-      where
-        at : (k : ℕ) → k < n + n / 2 → Dec (k < n - n / 2) → Dec (k < n) → coefficient r₃ k < p
-        at k h (yes e) d = product-residue 0 (n - n / 2) r₃ _ _ (room .modulus) even-product k (omega arith) (omega arith)
-        at k h (no e) (yes d) = product-residue (n - n / 2) (n / 2) r₃ _ _ (room .modulus) odd-product k (omega arith) (omega arith)
-        at k h (no e) (no d) = product-residue n (n / 2) r₃ _ _ (room .modulus) sum-product k (omega arith) h
 
-    pub thirds-product : {after : List ℕ} → after ≡ sets z₃ 0 (tabulate n (woven p n r₃)) → take n after ≡ cutProduct p n x y
+    pub thirds-product : {after : List ℕ} → after ≡ sets z₃ 0 (tabulate n (woven p r₃ 0 r₃ (n - n / 2) r₃ n)) → take n after ≡ cutProduct p n x y
     thirds-product woven-after =
-        front-sets n z₃ (tabulate n (woven p n r₃)) woven-after (length-tabulate n _) (omega (arith, room .lists .target))
+        front-sets n z₃ (tabulate n (woven p r₃ 0 r₃ (n - n / 2) r₃ n)) woven-after (length-tabulate n _) (omega (arith, room .lists .target))
         ∙ rule (room .modulus) n x y r₃ even-product odd-product sum-product

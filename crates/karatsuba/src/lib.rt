@@ -61,5 +61,5 @@ pub fn cut_product(
     third(p, n, 0, rounded, x, u, y, v, z, r, 0);
     third(p, n, 1, half, x, u, y, v, z, r, rounded);
     third(p, n, 2, half, x, u, y, v, z, r, n);
-    parity::weave(p, n, r, z);
+    parity::weave(p, n, r, 0, r, rounded, r, n, z, 0);
 }

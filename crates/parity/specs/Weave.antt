@@ -2,29 +2,29 @@
 --
 --   delayed o           the sequence o, one place later
 --   wovenAt p e o m     place 2 i is e_i + o_(i-1), and place 2 i + 1 is m_i - e_i - o_i, modulo p
---   woven p n r         the same of a list that holds the three one after another
+--   placesFrom l a      the sequence that a list holds from a place on
+--   woven p even a odd b sums c   the same of lists that hold the three
 --   woven-even woven-odd   its places
---   Woven p n r z       what `weave` requires: the three hold numbers below p
---   Weaving p n r z₀ z before i   i turns of its loop are done, and `before` is the odd product's last place read
+--   Woven               what `weave` requires: the three hold numbers below p
+--   Weaving z₀ z before i   i turns of its loop are done, and `before` is the odd product's last place read
 --   weaving-first weaving-next    before the first turn, and after one more
 --   weaving-before      `before` is below p
 --   weaving-odd weaving-even    after the last turn the list is woven; if n is odd, with one place more
 -- Assumes nothing.
 use Prim.Native.Nat.{ℕ, zero, suc, _+_, _-_, _*_, _/_, _%_, _<_, _≤_}
-use native.Mathlib.Nat.{mul-mod-right, mul-div-cancel-left, zero-add}
+use native.Mathlib.Nat.{mul-mod-right, mul-div-cancel-left}
 use native.Mathlib.Numerals.{add-one}
 use native.Mathlib.Omega.{arith}
 use mathlib.Core.Bool.{cond}
 use mathlib.Core.List.{List}
 use mathlib.Core.Path.{_≡_, refl, _∙_}
 use lib.Dec.{eqb}
-use lib.ListN.{length, drop, getD, set}
-use lib.Seq.{sets, getD-drop}
+use lib.ListN.{length, getD, set}
+use lib.Seq.{sets}
 use Rattle.algebra.specs.Alternate.{0<2}
 use Rattle.definition.specs.KinoshitaLi.{negative}
 use Rattle.definition.specs.Lists.{coefficient, tabulate}
 use Rattle.buffer.specs.Filling.{Filling, filling-first, filling-last, filling-next}
-use Rattle.parity.specs.Halves.{Residues}
 
 unfoldable pub delayed : (ℕ → ℕ) → ℕ → ℕ
 delayed o zero = 0
@@ -48,50 +48,61 @@ module _ (p : ℕ) (e o m : ℕ → ℕ) (i : ℕ) where
       let q : (2 * i + 1) / 2 ≡ i = omega arith in
       rw (r, q)
 
-abbrev pub woven : ℕ → ℕ → List ℕ → ℕ → ℕ
-woven p n r = wovenAt p (coefficient r) (coefficient (drop (n - n / 2) r)) (coefficient (drop n r))
+abbrev pub placesFrom : List ℕ → ℕ → ℕ → ℕ
+placesFrom l a k = coefficient l (a + k)
 
-pub record Woven (p n : ℕ) (r z : List ℕ) : Type 0 where
+abbrev pub woven : ℕ → List ℕ → ℕ → List ℕ → ℕ → List ℕ → ℕ → ℕ → ℕ
+woven p even a odd b sums c = wovenAt p (placesFrom even a) (placesFrom odd b) (placesFrom sums c)
+
+pub record Woven (p n : ℕ) (even : List ℕ) (a : ℕ) (odd : List ℕ) (b : ℕ) (sums : List ℕ) (c : ℕ) (z : List ℕ) (at : ℕ) : Type 0 where
   pub modulus : 0 < p
-  pub source : n + n / 2 ≤ length r
-  pub target : n ≤ length z
-  pub small : Residues p (n + n / 2) r
+  pub evens : a + (n - n / 2) ≤ length even
+  pub odds : b + n / 2 ≤ length odd
+  pub folds : c + n / 2 ≤ length sums
+  pub target : at + n ≤ length z
+  pub even-small : (k : ℕ) → k < n - n / 2 → placesFrom even a k < p
+  pub odd-small : (k : ℕ) → k < n / 2 → placesFrom odd b k < p
+  pub fold-small : (k : ℕ) → k < n / 2 → placesFrom sums c k < p
 
-pub record Weaving (p n : ℕ) (r z₀ z : List ℕ) (before i : ℕ) : Type 0 where
-  pub filling : Filling (woven p n r) 0 n z₀ z (2 * i)
-  pub held : before ≡ delayed (coefficient (drop (n - n / 2) r)) i
+-- i turns are done, and `before` is the last place of the odd product that was read
+module _ (p n : ℕ) (even : List ℕ) (a : ℕ) (odd : List ℕ) (b : ℕ) (sums : List ℕ) (c at : ℕ) where
+  pub record Weaving (z₀ z : List ℕ) (before i : ℕ) : Type 0 where
+    pub filling : Filling (woven p even a odd b sums c) at n z₀ z (2 * i)
+    pub held : before ≡ delayed (placesFrom odd b) i
 
-pub weaving-first : (p n : ℕ) (r z : List ℕ) → Weaving p n r z z 0 0
-unfolding delayed
-weaving-first p n r z = record { filling = filling-first (woven p n r) 0 n z; held = refl }
+  pub weaving-first : (z : List ℕ) → Weaving z z 0 0
+  unfolding delayed
+  weaving-first z = record { filling = filling-first (woven p even a odd b sums c) at n z; held = refl }
 
-module _ {p n : ℕ} {r z₀ z : List ℕ} {before i : ℕ} (weaving : Weaving p n r z₀ z before i) where
-  pub weaving-before : Woven p n r z₀ → before < p
-  unfolding delayed coefficient
-  weaving-before ready = rw (weaving .held) (at i (omega (arith, weaving .filling .few)))
+module _ {p n : ℕ} {even : List ℕ} {a : ℕ} {odd : List ℕ} {b : ℕ} {sums : List ℕ} {c at : ℕ} {z₀ z : List ℕ} {before i : ℕ}
+    (weaving : Weaving p n even a odd b sums c at z₀ z before i) where
+  pub weaving-before : Woven p n even a odd b sums c z₀ at → before < p
+  unfolding delayed
+  weaving-before ready = rw (weaving .held) (go i (omega (arith, weaving .filling .few)))
     where
-      at : (j : ℕ) → 2 * j ≤ n → delayed (coefficient (drop (n - n / 2) r)) j < p
-      at zero h = ready .modulus
-      at (suc j) h = rw getD-drop (ready .small (n - n / 2 + j) (omega arith))
+      go : (j : ℕ) → 2 * j ≤ n → delayed (placesFrom odd b) j < p
+      go zero h = ready .modulus
+      go (suc j) h = ready .odd-small j (omega arith)
 
-  module _ {v : ℕ} (even : v ≡ (getD r i 0 + before) % p) where
-    next-even : 2 * i < n → Filling (woven p n r) 0 n z₀ (set z (2 * i) v) (2 * i + 1)
+  module _ {v : ℕ} (first : v ≡ (getD even (a + i) 0 + before) % p) where
+    next-even : 2 * i < n → Filling (woven p even a odd b sums c) at n z₀ (set z (at + 2 * i) v) (2 * i + 1)
     unfolding coefficient
-    next-even h = rw zero-add at (filling-next (weaving .filling) h (even ∙ rw (weaving .held, woven-even)))
+    next-even h = filling-next (weaving .filling) h (first ∙ rw (weaving .held, woven-even))
 
-    pub weaving-odd : 2 * i + 1 ≡ n → set z (2 * i) v ≡ sets z₀ 0 (tabulate n (woven p n r))
+    pub weaving-odd : 2 * i + 1 ≡ n → set z (at + 2 * i) v ≡ sets z₀ at (tabulate n (woven p even a odd b sums c))
     weaving-odd e = filling-last (next-even (omega arith)) (omega arith)
 
     pub weaving-next : {w : ℕ} → i < n / 2
-        → w ≡ ((getD r (n + i) 0 + negative p (getD r i 0)) % p + negative p (getD r (n - n / 2 + i) 0)) % p
-        → Weaving p n r z₀ (set (set z (2 * i) v) (2 * i + 1) w) (getD r (n - n / 2 + i) 0) (i + 1)
+        → w ≡ ((getD sums (c + i) 0 + negative p (getD even (a + i) 0)) % p + negative p (getD odd (b + i) 0)) % p
+        → Weaving p n even a odd b sums c at z₀ (set (set z (at + 2 * i) v) (at + 2 * i + 1) w) (getD odd (b + i) 0) (i + 1)
     unfolding delayed coefficient
-    weaving-next {w} below odd =
+    weaving-next {w} below second =
         let twice : 2 * (i + 1) ≡ 2 * i + 1 + 1 = omega arith in
+        let place : at + 2 * i + 1 ≡ at + (2 * i + 1) = omega arith in
         record {
-          filling = rw twice (rw zero-add at (filling-next (next-even (omega arith)) (omega arith) (odd ∙ rw (woven-odd, getD-drop, getD-drop))));
-          held = rw (add-one, getD-drop);
+          filling = rw (twice, place) (filling-next (next-even (omega arith)) (omega arith) (second ∙ rw woven-odd));
+          held = rw add-one;
         }
 
-  pub weaving-even : 2 * i ≡ n → z ≡ sets z₀ 0 (tabulate n (woven p n r))
+  pub weaving-even : 2 * i ≡ n → z ≡ sets z₀ at (tabulate n (woven p even a odd b sums c))
   weaving-even e = filling-last (weaving .filling) (omega arith)

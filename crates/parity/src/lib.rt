@@ -40,29 +40,39 @@ fn pair_sums(p: u32, n: usize, count: usize, x: &[u32], u: &mut [u32])
     }
 }
 
-// The first n places of z become the product: r holds those of its parts, the even one, the odd one from the middle of n on and that of the
-// sums from n on.
-pub fn weave(p: u32, n: usize, r: &[u32], z: &mut [u32])
-    requires { ⌜ Woven p n (now r) (now z) ⌝ }
-    ensures { λ _. ⌜ now (z .exit) ≡ sets (now (z .entry)) 0 (tabulate n (woven p n (now (r .entry)))) ⌝ }
+// The n places of z from `at` on become the product: the lists hold those of its parts, the even one from a on, the odd one from b on and that of the sums
+// from c on. Two places a turn, and no jump on what is read.
+pub fn weave(
+    p: u32,
+    n: usize,
+    even: &[u32],
+    a: usize,
+    odd: &[u32],
+    b: usize,
+    sums: &[u32],
+    c: usize,
+    z: &mut [u32],
+    at: usize,
+)
+    requires { ⌜ Woven p n (now even) a (now odd) b (now sums) c (now z) at ⌝ }
+    ensures { λ _. ⌜ now (z .exit) ≡ sets (now (z .entry)) at (tabulate n (woven p (now (even .entry)) a (now (odd .entry)) b (now (sums .entry)) c)) ⌝ }
 {
     let half = n / 2;
-    let rounded = n - half;
     let mut before = 0;
     let mut i = 0;
     while i < half {
-        let e = r[i];
-        let o = r[rounded + i];
-        let m = r[n + i];
-        let even = residue::sum(p, e, before);
-        let cross = cross(p, m, e, o);
-        z[2 * i] = even;
-        z[2 * i + 1] = cross;
+        let e = even[a + i];
+        let o = odd[b + i];
+        let m = sums[c + i];
+        let first = residue::sum(p, e, before);
+        let second = cross(p, m, e, o);
+        z[at + 2 * i] = first;
+        z[at + 2 * i + 1] = second;
         before = o;
         i += 1;
     }
     if 2 * half < n {
-        z[2 * half] = residue::sum(p, r[half], before);
+        z[at + 2 * half] = residue::sum(p, even[a + half], before);
     }
 }
 

@@ -8,8 +8,7 @@ use mathlib.Core.Path.{_≡_, refl, ap, sym, _∙_}
 use Rattle.definition.specs.KinoshitaLi.{plane}
 use Rattle.grids.specs.Parts.{facing}
 use Rattle.planes.specs.Rows.{plane-first}
-use Rattle.double_karatsuba.specs.Packed.{rows-next}
-use Rattle.double_karatsuba.specs.Weave.{block-fits, woven-packed, wovenPlane}
+use Rattle.double_karatsuba.specs.Weave.{block-fits, block-next, woven-packed, wovenPlane}
 use Rattle.double_karatsuba.proofs.weave.Statement.{statement}
 use Rattle.double_karatsuba.proofs.weave.Tie as tie
 
@@ -45,8 +44,7 @@ weave-block-requires c κs =
     let at = turn .before .before in (
       start at .pre .0,
       rw (at .before .results .ensures) at (turn .if1 .taken),
-      ap (λ b. b .length) (at .before .results .ensures),
-      omega (arith, room at (turn .if1 .taken), at .loop .inv .1),
+      omega (arith, room at (turn .if1 .taken), at .loop .inv .1, ap (λ b. b .length) (at .before .results .ensures)),
     )
 
 add-l : tie.Need-add-l Inv-loop μ-loop
@@ -60,7 +58,7 @@ loop-again c =
     let called = c .before .before in
     let turn = called .before .before .before in
     let at = turn .before .before in
-    (omega (arith, turn .if1 .taken), search needs, rows-next _ _ _ _ (at .loop .inv .2) (called .weave-block .ensures))
+    (omega (arith, turn .if1 .taken), search needs, block-next (start at .args .t) _ (at .before .results .ensures) _ _ (at .loop .inv .2) (called .weave-block .ensures))
 
 same-length : tie.Need-same-length Inv-loop μ-loop
 same-length c = search needs

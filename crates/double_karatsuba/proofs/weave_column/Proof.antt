@@ -1,59 +1,49 @@
+-- `double_karatsuba::weave_column` meets its contract: after j turns the first j places are written. Assumes nothing.
 use borrow.Author.Needs.{needs}
+use Prim.Native.Nat.{_-_}
 use native.Mathlib.Omega.{arith}
-use Prim.Native.Nat.{ℕ, _+_, _*_, _-_, _<_, _≤_, _%_}
-use lib.ListN.{length, getD, take, drop, set}
-use mathlib.Core.Path.{_≡_, refl, sym, ap, _∙_}
+use Rattle.buffer.specs.Filling.{Filling, filling-first, filling-last, filling-next}
+use Rattle.double_karatsuba.specs.Weave.{column, wovenPlane}
 use Rattle.double_karatsuba.proofs.weave_column.Statement.{statement}
 use Rattle.double_karatsuba.proofs.weave_column.Tie as tie
-use Rattle.double_karatsuba.proofs.weave_column.Reads as reads
-use Rattle.double_karatsuba.proofs.weave_column.Lts as lts
-use Rattle.double_karatsuba.proofs.column_place.Reads as column-place-reads
 
 abbrev Inv-loop : tie.InvT-loop
-Inv-loop p t even odd sums i z₀ at j₀ z j = ?
+Inv-loop p t even odd sums i z₀ at j₀ z j = Filling (column (wovenPlane p t even odd sums) i) at (t .rows) z₀ z j
 
 abbrev μ-loop : tie.MeasureT-loop
-μ-loop p t even odd sums i z₀ at j₀ z j = ?
+μ-loop p t even odd sums i z₀ at j₀ z j = t .rows - j
 
--- src/lib.rt:209:5
 loop-holds : tie.Need-loop-holds Inv-loop μ-loop
-loop-holds c = search needs
+loop-holds c = filling-first _ _ _ _
 
--- src/lib.rt:210:21
-column-place-requires : tie.Need-column-place-requires Inv-loop μ-loop
-column-place-requires c κs = search needs
+woven-place-requires : tie.Need-woven-place-requires Inv-loop μ-loop
+woven-place-requires c κs =
+    let start = c .before .before .before .before .before .before .before in
+    (start .pre .0, c .if1 .taken, start .pre .1)
 
--- src/lib.rt:210:11
 add-z : tie.Need-add-z Inv-loop μ-loop
 add-z c = search needs
 
--- src/lib.rt:210:9
 mul-z : tie.Need-mul-z Inv-loop μ-loop
 mul-z c = search needs
 
--- src/lib.rt:210:9
 slice-write-z : tie.Need-slice-write-z Inv-loop μ-loop
 slice-write-z c = search needs
 
--- src/lib.rt:211:9
 add-j : tie.Need-add-j Inv-loop μ-loop
 add-j c = search needs
 
--- src/lib.rt:209:5
 loop-less : tie.Need-loop-less Inv-loop μ-loop
 loop-less c = search needs
 
--- src/lib.rt:209:5
 loop-again : tie.Need-loop-again Inv-loop μ-loop
-loop-again c = search needs
+loop-again c = filling-next (c .before .before .before .loop .inv) (c .before .if1 .taken) (c .woven-place .ensures)
 
--- src/lib.rt:194:1
 same-length : tie.Need-same-length Inv-loop μ-loop
 same-length c = search needs
 
--- src/lib.rt:194:1
 returns : tie.Need-returns Inv-loop μ-loop
-returns c = search needs
+returns c = filling-last (c .before .before .loop .inv) (c .if1 .left)
 
 pub weave-column-spec : {M : Type 1} → statement M
 weave-column-spec =
@@ -62,7 +52,7 @@ weave-column-spec =
     Inv-loop
     μ-loop
     loop-holds
-    column-place-requires
+    woven-place-requires
     add-z
     mul-z
     slice-write-z

@@ -167,7 +167,7 @@ module _ (t : ℕ) where
       let sums = weaved .before .before .before .before .before .before .before .before .before .before .before .before .before .before .before in
       let odds = sums .before .before .before .before .before .before .before .before .before .before .before .before .before .before .before .before .before .before .before in
       let evens = odds .before .before .before .before .before .before .before .before .before .before .before .before .before .before .before .before .before .before .before in
-      weaved .weave .kept .1 .1 .1 .0 ∙ sums .third3 .kept .1 .1 .1 .1 .1 .1 .1 .1 .0 ∙ odds .third2 .kept .1 .1 .1 .1 .1 .1 .1 .1 .0 ∙ evens .third .kept .1 .1 .1 .1 .1 .1 .1 .1 .0
+      weaved .weave .kept .1 .1 .1 .1 .1 .1 .1 .1 .0 ∙ sums .third3 .kept .1 .1 .1 .1 .1 .1 .1 .1 .0 ∙ odds .third2 .kept .1 .1 .1 .1 .1 .1 .1 .1 .0 ∙ evens .third .kept .1 .1 .1 .1 .1 .1 .1 .1 .0
 
   cut-product-same-length-9 : cut-product-lts.Need-same-length-9 (cut-product-claims t) (cut-product-at t) cut-product.Post
   cut-product-same-length-9 c =
