@@ -29,7 +29,7 @@ use compare::Both;
 use program::Built;
 use std::process::ExitCode;
 
-const GROUPS: [(&str, Check); 59] = [
+const GROUPS: [(&str, Check); 60] = [
     ("settled examples", settled::examples::<Both>),
     ("edges", settled::edges::<Both>),
     ("every small shape", shapes::every_small),
@@ -42,6 +42,7 @@ const GROUPS: [(&str, Check); 59] = [
     ("primes above 2^31, largest coefficients, large orders", shapes::largest_coefficients_closed),
     ("orders around powers of 2 up to 257, short and long outer lists", orders::small),
     ("orders around powers of 2 up to 1025, short and long outer lists", orders::large),
+    ("orders where route 4 halves its parts", orders::halved),
     ("four routes alike, 20000 draws up to 200", agreement::four_routes),
     ("products: every order up to 300", products::every_order),
     ("products: around each size where the method changes", products::around_changes),

@@ -74,6 +74,32 @@ fn at_orders(tally: &mut Tally, random: &mut Random, powers: impl Iterator<Item 
     }
 }
 
+/// Orders and counts at which route 4 halves its parts, once, twice or not at all, of an even and of an
+/// odd number of places, with few rows and with as many as there can be.
+const HALVED: [(usize, usize); 10] = [
+    (1100, 4096),
+    (1101, 1101),
+    (2047, 2),
+    (2048, 2048),
+    (2201, 2200),
+    (2303, 40),
+    (3073, 3073),
+    (4093, 4095),
+    (4095, 1300),
+    (4096, 18),
+];
+
+/// Route 4 there, for a modulus of each way to take remainders.
+pub fn halved(tally: &mut Tally, random: &mut Random) {
+    for (n, m) in HALVED {
+        for p in [7, 2_147_483_647, LARGEST_PRIME] {
+            let case = lists(random, p, n, m);
+            let (value, counted) = routes::kinoshita_li(p, &case.f, &case.g, n);
+            composed(tally, random, 4, &case, &value, counted);
+        }
+    }
+}
+
 pub fn small(tally: &mut Tally, random: &mut Random) {
     at_orders(tally, random, 1..=8);
 }

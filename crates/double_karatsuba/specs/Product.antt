@@ -33,11 +33,11 @@ use Rattle.grids.specs.declared.Grid.{Grid}
 use Rattle.double_rows.specs.Places.{packedAt}
 use Rattle.planes.specs.Parity.{oddPart}
 use Rattle.summed_product.specs.Zeros.{Zeros}
-use Rattle.double_karatsuba.specs.Halves.{even-half, evenHalf, folded-half, foldedPart, lies-even, lies-folded, lies-odd, lowerHalf, odd-half, oddHalf, upper, upperHalf}
-use Rattle.double_karatsuba.specs.Packed.{packed-agree, packed-at, packed-below}
-use Rattle.double_karatsuba.specs.Rule.{folded, karatsuba}
-use Rattle.double_karatsuba.specs.Weave.{Third, Thirds, woven-agree, wovenPlane}
-use Rattle.double_karatsuba.specs.declared.Results.{Results}
+use Rattle.double_parity.specs.Halves.{even-half, evenHalf, folded, folded-half, foldedPart, lies-even, lies-folded, lies-odd, lowerHalf, odd-half, oddHalf, upper, upperHalf}
+use Rattle.double_parity.specs.Packed.{packed-agree, packed-at, packed-below}
+use Rattle.double_karatsuba.specs.Rule.{karatsuba}
+use Rattle.double_parity.specs.Weave.{Third, Thirds, woven-agree, wovenPlane}
+use Rattle.double_parity.specs.declared.Results.{Results}
 
 abbrev pub productOf : ℕ → Grid → List ℕ → Grid → List ℕ → ℕ → ℕ → ℕ → ℕ
 productOf p g w h v low = window low (cutProduct2At p (gridAt g w) (gridAt h v))

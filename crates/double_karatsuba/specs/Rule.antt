@@ -1,6 +1,5 @@
 -- Karatsuba's rule for polynomials in x and y modulo p: their product from those of the even parts, of the odd parts and of the sums of the two.
 --
---   folded p a         the sum of the even and the odd part modulo p: neighbouring powers of x are added
 --   karatsuba          a row of the product is woven from those of the three
 -- Assumes nothing.
 use Prim.Native.Nat.{ℕ, zero, suc, _+_, _*_, _/_, _%_, _<_}
@@ -14,12 +13,10 @@ use Rattle.algebra.specs.Residue.{neg-value, residue, residue-+, residue-value,
 use Rattle.algebra.specs.Semiring.{Semiring, naturals}
 use Rattle.algebra.specs.Series.{series, ⊞-at}
 use Rattle.definition.specs.KinoshitaLi.{cutProduct2At, evenPart, negative, product2}
+use Rattle.double_parity.specs.Halves.{folded}
 use Rattle.parity.specs.Weave.{delayed, woven-even, woven-odd, wovenAt}
 use Rattle.planes.specs.Parity.{even-first, even-next, odd-product, oddPart}
 use Rattle.planes.specs.Products.{residues2}
-
-unfoldable pub folded : ℕ → (ℕ → ℕ → ℕ) → ℕ → ℕ → ℕ
-folded p a j i = (a j (2 * i) + a j (2 * i + 1)) % p
 
 -- the sum of the even and the odd part
 neighbours : Plane ℕ → Plane ℕ

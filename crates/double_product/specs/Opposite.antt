@@ -25,9 +25,9 @@ use Rattle.grids.specs.Parts.{Few, Lies, Room, Source, blockPlaces, gridAt, pac
 use Rattle.grids.specs.declared.Grid.{Grid}
 use Rattle.summed_product.specs.Zeros.{Zeros}
 use Rattle.planes.specs.Parity.{oddPart, opposite-even, opposite-first, opposite-odd}
-use Rattle.double_karatsuba.specs.Packed.{packed-at, packed-below}
+use Rattle.double_parity.specs.Packed.{packed-at, packed-below}
 use Rattle.double_karatsuba.specs.Product.{Multiplied, Multiplying, same-multiplied, zeros-clean}
-use Rattle.double_karatsuba.specs.declared.Results.{Results}
+use Rattle.double_parity.specs.declared.Results.{Results}
 use Rattle.double_rows.specs.Places.{Putting, oppositePlace, packedAt, placeOf}
 use Rattle.double_product.specs.Rows.{Reading, blocks-few, every, every-even, every-odd, everySecond, lies-even, lies-odd, resultsOf, rowsAt}
 

@@ -27,7 +27,7 @@ use Rattle.definition.specs.KinoshitaLi.{evenPart, planeAt}
 use Rattle.definition.specs.Lists.{ceilDiv, coefficient}
 use Rattle.grids.specs.Parts.{Few, Lies, Source, blockPlaces, gridAt}
 use Rattle.grids.specs.declared.Grid.{Grid}
-use Rattle.double_karatsuba.specs.declared.Results.{Results}
+use Rattle.double_parity.specs.declared.Results.{Results}
 use Rattle.planes.specs.Rows.{plane-fits}
 use Rattle.planes.specs.Parity.{oddPart}
 

@@ -28,9 +28,9 @@ use Rattle.grids.specs.declared.Grid.{Grid}
 use Rattle.summed_product.specs.Zeros.{Zeros}
 use Rattle.planes.specs.Parity.{oddPart, squared-even, squared-odd}
 use Rattle.planes.specs.Products.{product2-agree, product2-comm}
-use Rattle.double_karatsuba.specs.Packed.{packed-at, packed-below}
+use Rattle.double_parity.specs.Packed.{packed-at, packed-below}
 use Rattle.double_karatsuba.specs.Product.{Multiplied, Multiplying, same-multiplied, zeros-clean}
-use Rattle.double_karatsuba.specs.declared.Results.{Results}
+use Rattle.double_parity.specs.declared.Results.{Results}
 use Rattle.double_product.specs.Opposite.{half-near, half-positive}
 use Rattle.double_rows.specs.Places.{Putting, packedAt, placeOf, spreadPlace}
 use Rattle.double_product.specs.Rows.{Reading, blocks-few, every, every-even, every-odd, everySecond, lies-even, lies-odd, lies-second, resultsOf, rowsAt, shorter}

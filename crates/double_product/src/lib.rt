@@ -1,6 +1,6 @@
 // Products of polynomials in x and y modulo p that stand in rows of a lent buffer, by even and odd powers of x (`grids`, `double_karatsuba`): a(x, y) a(-x, y),
 // whose odd powers vanish, and a(x^2, y) b(x, y), whose even and odd powers come from those of b. The factors are read before the target is written.
-use double_karatsuba::Results;
+use double_parity::Results;
 use grids::Grid;
 ghost use mathlib.Core.Path.{_≡_};
 ghost use Prim.Native.Nat.{_*_, _≤_};

@@ -7,20 +7,20 @@ use borrow.Fn.PlainCycle.{Measures, is, falls, and}
 use mathlib.Core.Path.{_≡_, refl, sym}
 use lib.ListN.{replicate}
 use Rattle.summed_product.specs.Zeros.{zeros-replicate}
-use Rattle.double_karatsuba.specs.Halves.{evenHalf, foldedPart, lowerHalf, oddHalf, upper, upperHalf}
+use Rattle.double_parity.specs.Halves.{evenHalf, foldedPart, lowerHalf, oddHalf, upper, upperHalf}
 use Rattle.double_karatsuba.specs.Product.{Long, Multiplied, Multiplying, even-multiplying, fold-first, fold-second, folded-multiplying, half-inner, half-start, odd-multiplying, places-few, same-multiplied, same-multiplying, shorter, thirds, woven-product}
 use Rattle.double_karatsuba.proofs.product.Reads as product
 use Rattle.double_karatsuba.proofs.product.Kinds as product-kinds
 use Rattle.double_karatsuba.proofs.+product.Lts-product as product-lts
 use Rattle.double_karatsuba.proofs.by_blocks.Reads as by-blocks-reads
-use Rattle.double_karatsuba.proofs.even_half.Reads as even-half-reads
-use Rattle.double_karatsuba.proofs.fold.Reads as fold-reads
-use Rattle.double_karatsuba.proofs.folded_part.Reads as folded-part-reads
+use Rattle.double_parity.proofs.even_half.Reads as even-half-reads
+use Rattle.double_parity.proofs.fold.Reads as fold-reads
+use Rattle.double_parity.proofs.folded_part.Reads as folded-part-reads
 use Rattle.double_karatsuba.proofs.is_short.Reads as is-short-reads
-use Rattle.double_karatsuba.proofs.lower_half.Reads as lower-half-reads
-use Rattle.double_karatsuba.proofs.odd_half.Reads as odd-half-reads
-use Rattle.double_karatsuba.proofs.upper_half.Reads as upper-half-reads
-use Rattle.double_karatsuba.proofs.weave.Reads as weave-reads
+use Rattle.double_parity.proofs.lower_half.Reads as lower-half-reads
+use Rattle.double_parity.proofs.odd_half.Reads as odd-half-reads
+use Rattle.double_parity.proofs.upper_half.Reads as upper-half-reads
+use Rattle.double_parity.proofs.weave.Reads as weave-reads
 use Rattle.double_karatsuba.proofs.+product.{statement}
 use Rattle.double_karatsuba.proofs.+product.Tie.{close}
 

@@ -1,5 +1,6 @@
 -- The halves of a part: the even and the odd powers of x, and the sum of the two.
 --
+--   folded p a                  the sum of the even and the odd part modulo p: neighbouring powers of x are added
 --   upper n                     n / 2 rounded up
 --   evenHalf oddHalf            the two parts, with every second place
 --   foldedPart                  the part that holds their sum
@@ -25,9 +26,11 @@ use Rattle.definition.specs.Lists.{coefficient}
 use Rattle.grids.specs.Parts.{Lies, gridAt}
 use Rattle.grids.specs.declared.Grid.{Grid}
 use Rattle.planes.specs.Parity.{oddPart}
-use Rattle.double_karatsuba.specs.Packed.{written-at}
-use Rattle.double_karatsuba.specs.Rule.{folded}
-use Rattle.double_karatsuba.specs.declared.Results.{Results}
+use Rattle.double_parity.specs.Packed.{written-at}
+use Rattle.double_parity.specs.declared.Results.{Results}
+
+unfoldable pub folded : ℕ → (ℕ → ℕ → ℕ) → ℕ → ℕ → ℕ
+folded p a j i = (a j (2 * i) + a j (2 * i + 1)) % p
 
 abbrev pub upper : ℕ → ℕ
 upper n = n - n / 2

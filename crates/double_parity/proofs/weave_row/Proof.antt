@@ -1,12 +1,12 @@
--- `double_karatsuba::weave_row` meets its contract. Assumes nothing.
+-- `double_parity::weave_row` meets its contract. Assumes nothing.
 use borrow.Author.Needs.{needs}
 use native.Mathlib.Omega.{arith}
 use mathlib.Core.Path.{sym, ap, _∙_}
 use lib.Seq.{sets}
 use Rattle.definition.specs.Lists.{tabulate}
-use Rattle.double_karatsuba.specs.Weave.{row-fits, row-needs, row-woven}
-use Rattle.double_karatsuba.proofs.weave_row.Statement.{statement}
-use Rattle.double_karatsuba.proofs.weave_row.Tie as tie
+use Rattle.double_parity.specs.Weave.{row-fits, row-needs, row-woven}
+use Rattle.double_parity.proofs.weave_row.Statement.{statement}
+use Rattle.double_parity.proofs.weave_row.Tie as tie
 
 sub-a : tie.Need-sub-a
 sub-a c = search needs

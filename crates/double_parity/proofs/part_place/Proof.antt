@@ -1,4 +1,4 @@
--- `double_karatsuba::part_place` meets its contract: a place of the list where the part has one, else 0. Assumes nothing.
+-- `double_parity::part_place` meets its contract: a place of the list where the part has one, else 0. Assumes nothing.
 use borrow.Author.Needs.{needs}
 use native.Mathlib.Nat.{zero-mod}
 use native.Mathlib.Omega.{arith}
@@ -6,9 +6,9 @@ use Prim.Native.Nat.{_+_, _*_, _<_}
 use lib.ListN.{length}
 use mathlib.Core.Path.{sym, _∙_}
 use Rattle.definition.specs.Lists.{coefficient}
-use Rattle.double_karatsuba.specs.Halves.{grid-above, grid-inside, grid-right}
-use Rattle.double_karatsuba.proofs.part_place.Statement.{statement}
-use Rattle.double_karatsuba.proofs.part_place.Tie as tie
+use Rattle.double_parity.specs.Halves.{grid-above, grid-inside, grid-right}
+use Rattle.double_parity.proofs.part_place.Statement.{statement}
+use Rattle.double_parity.proofs.part_place.Tie as tie
 
 module _ (c : tie.Then2) where
   abbrev start : tie.Start

@@ -1,11 +1,11 @@
--- `double_karatsuba::weave_column` meets its contract: after j turns the first j places are written. Assumes nothing.
+-- `double_parity::weave_column` meets its contract: after j turns the first j places are written. Assumes nothing.
 use borrow.Author.Needs.{needs}
 use Prim.Native.Nat.{_-_}
 use native.Mathlib.Omega.{arith}
 use Rattle.buffer.specs.Filling.{Filling, filling-first, filling-last, filling-next}
-use Rattle.double_karatsuba.specs.Weave.{column, wovenPlane}
-use Rattle.double_karatsuba.proofs.weave_column.Statement.{statement}
-use Rattle.double_karatsuba.proofs.weave_column.Tie as tie
+use Rattle.double_parity.specs.Weave.{column, wovenPlane}
+use Rattle.double_parity.proofs.weave_column.Statement.{statement}
+use Rattle.double_parity.proofs.weave_column.Tie as tie
 
 abbrev Inv-loop : tie.InvT-loop
 Inv-loop p t even odd sums i z₀ at j₀ z j = Filling (column (wovenPlane p t even odd sums) i) at (t .rows) z₀ z j

@@ -1,4 +1,4 @@
--- `double_karatsuba::weave` meets its contract: the first l blocks are written. Assumes nothing.
+-- `double_parity::weave` meets its contract: the first l blocks are written. Assumes nothing.
 use borrow.Author.Needs.{needs}
 use native.Mathlib.Omega.{arith}
 use Prim.Native.Nat.{_+_, _*_, _-_, _<_, _≤_}
@@ -8,9 +8,9 @@ use mathlib.Core.Path.{_≡_, refl, ap, sym, _∙_}
 use Rattle.definition.specs.KinoshitaLi.{plane}
 use Rattle.grids.specs.Parts.{facing}
 use Rattle.planes.specs.Rows.{plane-first}
-use Rattle.double_karatsuba.specs.Weave.{block-fits, block-next, woven-packed, wovenPlane}
-use Rattle.double_karatsuba.proofs.weave.Statement.{statement}
-use Rattle.double_karatsuba.proofs.weave.Tie as tie
+use Rattle.double_parity.specs.Weave.{block-fits, block-next, woven-packed, wovenPlane}
+use Rattle.double_parity.proofs.weave.Statement.{statement}
+use Rattle.double_parity.proofs.weave.Tie as tie
 
 abbrev Inv-loop : tie.InvT-loop
 Inv-loop p t even odd sums z₀ b l₀ z l =

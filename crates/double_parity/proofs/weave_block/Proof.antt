@@ -1,11 +1,11 @@
--- `double_karatsuba::weave_block` meets its contract. Assumes nothing.
+-- `double_parity::weave_block` meets its contract. Assumes nothing.
 use borrow.Author.Needs.{needs}
 use native.Mathlib.Omega.{arith}
 use mathlib.Core.Path.{sym, _∙_}
 use Rattle.planes.specs.Products as planes
-use Rattle.double_karatsuba.specs.Weave.{block-straight, block-turned}
-use Rattle.double_karatsuba.proofs.weave_block.Statement.{statement}
-use Rattle.double_karatsuba.proofs.weave_block.Tie as tie
+use Rattle.double_parity.specs.Weave.{block-straight, block-turned}
+use Rattle.double_parity.proofs.weave_block.Statement.{statement}
+use Rattle.double_parity.proofs.weave_block.Tie as tie
 
 weave-column-requires : tie.Need-weave-column-requires
 weave-column-requires c κs =

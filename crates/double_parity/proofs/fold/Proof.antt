@@ -1,4 +1,4 @@
--- `double_karatsuba::fold` meets its contract: the first j rows are written. Assumes nothing.
+-- `double_parity::fold` meets its contract: the first j rows are written. Assumes nothing.
 use borrow.Author.Needs.{needs}
 use native.Mathlib.Omega.{arith}
 use Prim.Native.Nat.{ℕ, _+_, _*_, _-_, _<_, _≤_}
@@ -8,11 +8,11 @@ use mathlib.Core.Path.{_≡_, refl}
 use Rattle.definition.specs.KinoshitaLi.{plane}
 use Rattle.grids.specs.Parts.{gridAt}
 use Rattle.planes.specs.Rows.{plane-first}
-use Rattle.double_karatsuba.specs.Packed.{rows-fit, rows-next}
-use Rattle.double_karatsuba.specs.Rule.{folded}
-use Rattle.double_karatsuba.specs.Halves.{upper}
-use Rattle.double_karatsuba.proofs.fold.Statement.{statement}
-use Rattle.double_karatsuba.proofs.fold.Tie as tie
+use Rattle.double_parity.specs.Packed.{rows-fit, rows-next}
+use Rattle.double_parity.specs.Halves.{folded}
+use Rattle.double_parity.specs.Halves.{upper}
+use Rattle.double_parity.proofs.fold.Statement.{statement}
+use Rattle.double_parity.proofs.fold.Tie as tie
 
 abbrev Inv-loop : tie.InvT-loop
 Inv-loop p g w s₀ n j₀ s j = (j ≤ g .count) × (length s ≡ length s₀) × (s ≡ sets s₀ 0 (plane n j (folded p (gridAt g w))))

@@ -27,9 +27,9 @@ use Rattle.definition.specs.Lists.{coefficient, tabulate}
 use Rattle.double_rows.specs.Places.{packedAt}
 use Rattle.grids.specs.Parts.{facing, packed, resultsOf}
 use Rattle.parity.specs.Weave.{Woven, delayed, woven, woven-even, woven-odd, wovenAt}
-use Rattle.double_karatsuba.specs.Halves.{upper}
-use Rattle.double_karatsuba.specs.Packed.{rows-fit, rows-next}
-use Rattle.double_karatsuba.specs.declared.Results.{Results}
+use Rattle.double_parity.specs.Halves.{upper}
+use Rattle.double_parity.specs.Packed.{rows-fit, rows-next}
+use Rattle.double_parity.specs.declared.Results.{Results}
 
 pub record Third (p m count : ℕ) (l : List ℕ) : Type 0 where
   pub room : count * m ≤ length l

@@ -1,4 +1,4 @@
--- `double_karatsuba::fold_row` meets its contract: after i turns the first i places are written. Assumes nothing.
+-- `double_parity::fold_row` meets its contract: after i turns the first i places are written. Assumes nothing.
 use borrow.Author.Needs.{needs}
 use native.Mathlib.Nat.{add-mod-mod, mod-add-mod, mod-lt}
 use native.Mathlib.Omega.{arith}
@@ -6,9 +6,9 @@ use Prim.Native.Nat.{_-_}
 use mathlib.Core.Path.{_∙_}
 use Rattle.buffer.specs.Filling.{Filling, filling-first, filling-last, filling-next}
 use Rattle.grids.specs.Parts.{gridAt}
-use Rattle.double_karatsuba.specs.Rule.{folded}
-use Rattle.double_karatsuba.proofs.fold_row.Statement.{statement}
-use Rattle.double_karatsuba.proofs.fold_row.Tie as tie
+use Rattle.double_parity.specs.Halves.{folded}
+use Rattle.double_parity.proofs.fold_row.Statement.{statement}
+use Rattle.double_parity.proofs.fold_row.Tie as tie
 
 abbrev Inv-loop : tie.InvT-loop
 Inv-loop p g w j n s₀ t i₀ s i = Filling (folded p (gridAt g w) j) t n s₀ s i

@@ -1,12 +1,12 @@
--- `double_karatsuba::woven_place` meets its contract. Assumes nothing.
+-- `double_parity::woven_place` meets its contract. Assumes nothing.
 use borrow.Author.Needs.{needs}
 use native.Mathlib.Omega.{arith}
 use Prim.Native.Nat.{ℕ, _<_, _%_}
 use mathlib.Core.Path.{_≡_, sym, _∙_}
 use Rattle.double_rows.specs.Places.{packed-residue}
-use Rattle.double_karatsuba.specs.Weave.{woven-cross, woven-first, woven-next, wovenPlane}
-use Rattle.double_karatsuba.proofs.woven_place.Statement.{statement}
-use Rattle.double_karatsuba.proofs.woven_place.Tie as tie
+use Rattle.double_parity.specs.Weave.{woven-cross, woven-first, woven-next, wovenPlane}
+use Rattle.double_parity.proofs.woven_place.Statement.{statement}
+use Rattle.double_parity.proofs.woven_place.Tie as tie
 
 below-by : {a b p : ℕ} → a ≡ b → b < p → a < p
 below-by e h = rw e h
