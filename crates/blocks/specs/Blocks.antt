@@ -4,20 +4,19 @@
 --   blocksOf a l            the list as a polynomial in two variables: block i holds the coefficients of power i of the outer one
 --   Blocked p a l           residues modulo p, with zeros before and behind each block
 --   Factors                 two such lists, the first one not too long
---   Rooms Tiled Target      room for the sums of a part of a result, of a result, and for the results
+--   Rooms                   room for the sums of a part of a result
 --   rooms-length            the sums may be others of that length
 --   Squared                 where it is a square the factors are the same (square-factors, square-sums)
 --   Pairs                   what `add_pairs` requires
 --   pairsSum f g j from to low t   place low + t of the products of blocks l and j - l, for l from `from` on and below `to`
 --   twicePairs              that of a square, twice
---   resultAt windowAt productBlocks   place low + t of block j of the product, modulo p, and blocks of the product
+--   resultAt f g j low t    place low + t of block j of the product
 --   Changed f t l l′        each place below t becomes f of it (changed-none, changed-next)
 --   Doubled n s s′ h h′     the sums below n are doubled
 --   pairs-none pair-of pairs-next pairs-count pairs-done   no pair, one more, and all
 --   pairs-all pairs-square  all pairs that the product needs, and that the square needs
 --   inside-all inside-half inside-middle   their blocks are there
 --   summed-up summed-twice squared-up   what the sums keep after them
---   tile-done               their remainders are the result
 -- Assumes nothing.
 use Prim.Native.Nat.{ℕ, suc, _+_, _-_, _*_, _/_, _%_, _<_, _≤_, _^_, min}
 use native.Mathlib.Decide.{decLe}
@@ -29,16 +28,14 @@ use mathlib.Core.Path.{_≡_, refl, sym, ap, ap₂, _∙_}
 use borrow.Author.Tests.{le-ltb, lt-ltb}
 use lib.Dec.{ltb}
 use lib.ListN.{getD, length, set}
-use lib.Seq.{sets, getD-set-other, getD-set-same}
-use Rattle.algebra.specs.Lists.{length-tabulate, sum-beyond, sum-zero}
-use Rattle.buffer.specs.Written.{sets-whole}
-use Rattle.definition.specs.KinoshitaLi.{cutProduct2At, plane, product2, product2Term}
-use Rattle.definition.specs.Lists.{sum, tabulate}
+use lib.Seq.{getD-set-other, getD-set-same}
+use Rattle.algebra.specs.Lists.{sum-beyond, sum-zero}
+use Rattle.definition.specs.KinoshitaLi.{product2, product2Term}
+use Rattle.definition.specs.Lists.{sum}
 use Rattle.definition.specs.Substitution.{product, productTerm}
 use Rattle.planes.specs.Products.{square}
-use Rattle.rows.specs.Sums.{remainderList}
 use Rattle.rows.specs.Rows.{Below, sum-+}
-use Rattle.summed_product.specs.Sums.{Sums, sums-added, sums-double, sums-remainders, sums-wider}
+use Rattle.summed_product.specs.Sums.{Sums, sums-added, sums-double, sums-wider}
 use Rattle.summed_product.specs.Terms.{Added, added-wider, Padded, Pair, productOf, values}
 use Rattle.summed_product.specs.declared.Part.{Part}
 use Rattle.blocks.specs.declared.Blocks.{Blocks}
@@ -79,17 +76,6 @@ pub record Rooms (j low n : ℕ) (sums high : List ℕ) : Type 0 where
 pub rooms-length : {j low n : ℕ} {sums high s h : List ℕ} → length s ≡ length sums → length h ≡ length high → Rooms j low n sums high → Rooms j low n s h
 rooms-length e f r = record { sums-room = rw e (r .sums-room); high-room = rw f (r .high-room); places = r .places; block = r .block }
 
-pub record Tiled (j low n : ℕ) (sums high : List ℕ) : Type 0 where
-  pub sums-room : 128 ≤ length sums
-  pub high-room : 128 ≤ length high
-  pub places : low + n < 2 ^ 32
-  pub block : j < 2 ^ 32
-
-pub record Target (first low : ℕ) (t : Blocks) (z : List ℕ) : Type 0 where
-  pub room : t .count * t .length ≤ length z
-  pub places : low + t .length < 2 ^ 32
-  pub blocks : first + t .count < 2 ^ 32
-
 pub record Pairs (p : ℕ) (a : Blocks) (left : List ℕ) (b : Blocks) (right : List ℕ) (j from to low n : ℕ) (sums high : List ℕ) : Type 0 where
   pub factors : Factors p a left b right
   pub rooms : Rooms j low n sums high
@@ -103,12 +89,6 @@ twicePairs f j from to low t = pairsSum f f j from to low t + pairsSum f f j fro
 
 abbrev pub resultAt : (ℕ → ℕ → ℕ) → (ℕ → ℕ → ℕ) → ℕ → ℕ → ℕ → ℕ
 resultAt f g j low t = product2 f g j (low + t)
-
-abbrev pub windowAt : ℕ → (ℕ → ℕ → ℕ) → (ℕ → ℕ → ℕ) → ℕ → ℕ → ℕ → ℕ
-windowAt p f g j low t = cutProduct2At p f g j (low + t)
-
-abbrev pub productBlocks : ℕ → (ℕ → ℕ → ℕ) → (ℕ → ℕ → ℕ) → ℕ → ℕ → Blocks → List ℕ
-productBlocks p f g first low t = plane (t .length) (t .count) (λ k. windowAt p f g (first + k) low)
 
 -- each place below t becomes f of it
 pub record Changed (f : ℕ → ℕ) (t : ℕ) (l l′ : List ℕ) : Type 0 where
@@ -294,11 +274,3 @@ module _ {square : Bool} {a : Blocks} {left : List ℕ} {b : Blocks} {right : Li
       → Sums n m s h (resultAt (blocksOf a left) (blocksOf b right) j low)
   square-sums sums =
       sums-wider (le-refl _) (λ t c. ap (λ g. product2 (blocksOf a left) g j (low + t)) (sym (ap₂ blocksOf (squared .same is .0) (squared .same is .1)))) sums
-
--- the remainders of the sums are the result modulo p
-pub tile-done : (p : ℕ) (f g : ℕ → ℕ → ℕ) (j low : ℕ) (z : List ℕ) {n : ℕ} {s h z′ : List ℕ} → Sums n (2 ^ 14 - 1) s h (resultAt f g j low) → n ≡ length z
-    → z′ ≡ sets z 0 (remainderList p n s h) → z′ ≡ tabulate (length z) (windowAt p f g j low)
-unfolding cutProduct2At
-tile-done p f g j low z sums size e =
-    e ∙ ap (sets z 0) (sums-remainders sums (le-refl _) p ∙ ap (λ k. tabulate k (windowAt p f g j low)) size)
-    ∙ sets-whole z (tabulate (length z) (windowAt p f g j low)) (length-tabulate (length z) _)

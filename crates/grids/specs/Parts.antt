@@ -12,7 +12,7 @@
 --   SquarePut ProductPut   the contracts of `square` and `product`
 --   load-needs             what `load` requires
 --   read-blocks read-clean read-values read-few   what it leaves
---   room-target square-target   what `blocks::multiply` requires
+--   room-target square-target   what `block_product::multiply` requires
 --   window-0               all rows, from the first on
 --   square-put product-put      what it leaves
 -- Assumes nothing.
@@ -27,7 +27,8 @@ use mathlib.Core.Path.{_≡_, refl, ap, fun-ext, _∙_}
 use lib.Dec.{ltb}
 use lib.ListN.{length}
 use lib.Seq.{sets}
-use Rattle.blocks.specs.Blocks.{Blocked, Target, blocksOf, productBlocks}
+use Rattle.block_product.specs.Results.{Target, productBlocks}
+use Rattle.blocks.specs.Blocks.{Blocked, blocksOf}
 use Rattle.blocks.specs.declared.Blocks.{Blocks}
 use Rattle.definition.specs.KinoshitaLi.{cutProduct2At, plane, window}
 use Rattle.definition.specs.Lists.{coefficient}

@@ -114,7 +114,7 @@ pub fn square(
         count: part.count,
         length: part.length,
     };
-    blocks::multiply(
+    block_product::multiply(
         p,
         true,
         a,
@@ -162,8 +162,8 @@ pub fn product(
     };
     let t = results(turned, m, count);
     if turned {
-        blocks::multiply(p, false, a, left, b, right, 0, low, t, z);
+        block_product::multiply(p, false, a, left, b, right, 0, low, t, z);
     } else {
-        blocks::multiply(p, false, a, left, b, right, low, 0, t, z);
+        block_product::multiply(p, false, a, left, b, right, low, 0, t, z);
     }
 }

@@ -1,11 +1,14 @@
--- Results written one part after the other.
+-- Results: blocks of a product, the remainders of the sums, written one part after the other.
 --
+--   Tiled Target              room for the sums of a result, and for the results
+--   windowAt productBlocks    place low + t of block j of the product modulo p, and blocks of the product
+--   tile-done                 the remainders of the sums are a part of a result
 --   tile-rooms result-rooms   room for the sums of a part of a result, and of a result
 --   tile-first tile-next tile-last   nothing of a result is written, one more part, and all of it
 --   results-first results-next   no result, and one more
 -- Assumes nothing.
-use Prim.Native.Nat.{ℕ, _+_, _-_, _*_, _<_, _≤_}
-use native.Mathlib.Nat.{add-assoc, zero-add}
+use Prim.Native.Nat.{ℕ, _+_, _-_, _*_, _<_, _≤_, _^_}
+use native.Mathlib.Nat.{add-assoc, le-refl, zero-add}
 use native.Mathlib.Numerals.{add-one}
 use native.Mathlib.Omega.{arith}
 use mathlib.Core.List.{List, _++_}
@@ -16,11 +19,38 @@ use Rattle.algebra.specs.Lists.{length-tabulate, tabulate-cong}
 use Rattle.algebra.specs.Rows.{length-plane}
 use Rattle.buffer.specs.Segments.{segment}
 use Rattle.buffer.specs.Written.{length-part, sets-append, sets-part, sets-whole}
-use Rattle.definition.specs.KinoshitaLi.{plane}
+use Rattle.definition.specs.KinoshitaLi.{cutProduct2At, plane}
 use Rattle.definition.specs.Lists.{tabulate}
 use Rattle.planes.specs.Rows.{plane-0, plane-fits, plane-suc, tabulate-+}
-use Rattle.blocks.specs.Blocks.{Rooms, Target, Tiled, windowAt}
+use Rattle.rows.specs.Sums.{remainderList}
+use Rattle.summed_product.specs.Sums.{Sums, sums-remainders}
+use Rattle.blocks.specs.Blocks.{Rooms, resultAt}
 use Rattle.blocks.specs.declared.Blocks.{Blocks}
+
+pub record Tiled (j low n : ℕ) (sums high : List ℕ) : Type 0 where
+  pub sums-room : 128 ≤ length sums
+  pub high-room : 128 ≤ length high
+  pub places : low + n < 2 ^ 32
+  pub block : j < 2 ^ 32
+
+pub record Target (first low : ℕ) (t : Blocks) (z : List ℕ) : Type 0 where
+  pub room : t .count * t .length ≤ length z
+  pub places : low + t .length < 2 ^ 32
+  pub blocks : first + t .count < 2 ^ 32
+
+abbrev pub windowAt : ℕ → (ℕ → ℕ → ℕ) → (ℕ → ℕ → ℕ) → ℕ → ℕ → ℕ → ℕ
+windowAt p f g j low t = cutProduct2At p f g j (low + t)
+
+abbrev pub productBlocks : ℕ → (ℕ → ℕ → ℕ) → (ℕ → ℕ → ℕ) → ℕ → ℕ → Blocks → List ℕ
+productBlocks p f g first low t = plane (t .length) (t .count) (λ k. windowAt p f g (first + k) low)
+
+-- the remainders of the sums are the result modulo p
+pub tile-done : (p : ℕ) (f g : ℕ → ℕ → ℕ) (j low : ℕ) (z : List ℕ) {n : ℕ} {s h z′ : List ℕ} → Sums n (2 ^ 14 - 1) s h (resultAt f g j low) → n ≡ length z
+    → z′ ≡ sets z 0 (remainderList p n s h) → z′ ≡ tabulate (length z) (windowAt p f g j low)
+unfolding cutProduct2At
+tile-done p f g j low z sums size e =
+    e ∙ ap (sets z 0) (sums-remainders sums (le-refl _) p ∙ ap (λ k. tabulate k (windowAt p f g j low)) size)
+    ∙ sets-whole z (tabulate (length z) (windowAt p f g j low)) (length-tabulate (length z) _)
 
 pub tile-rooms : {j low n : ℕ} {sums high s h : List ℕ} → Tiled j low n sums high → length s ≡ length sums → length h ≡ length high
     → (z : List ℕ) (k end : ℕ) → length z ≡ n → k ≤ end → end ≤ n → end ≤ k + 128 → Rooms j (low + k) (length (segment z k (end - k))) s h

@@ -1,15 +1,15 @@
--- `blocks::multiply` meets its contract: the first k results are there. Assumes nothing.
+-- `block_product::multiply` meets its contract: the first k results are there. Assumes nothing.
 use borrow.Author.Needs.{needs}
 use native.Mathlib.Omega.{arith}
 use Prim.Native.Nat.{_+_, _*_, _-_, _<_, _≤_}
 use lib.ListN.{length}
 use lib.Seq.{sets}
 use Rattle.definition.specs.KinoshitaLi.{plane}
-use Rattle.blocks.specs.Blocks.{blocksOf, windowAt}
-use Rattle.blocks.specs.Results.{result-fits, result-rooms, results-first, results-next}
+use Rattle.blocks.specs.Blocks.{blocksOf}
+use Rattle.block_product.specs.Results.{result-fits, result-rooms, results-first, results-next, windowAt}
 use mathlib.Core.Path.{_≡_, refl}
-use Rattle.blocks.proofs.multiply.Statement.{statement}
-use Rattle.blocks.proofs.multiply.Tie as tie
+use Rattle.block_product.proofs.multiply.Statement.{statement}
+use Rattle.block_product.proofs.multiply.Tie as tie
 
 abbrev Inv-loop : tie.InvT-loop
 Inv-loop p square a left b right first low t z₀ sums₀ high₀ k₀ z sums high k =

@@ -1,15 +1,15 @@
--- `blocks::result` meets its contract: the places below k are there. Assumes nothing.
+-- `block_product::result` meets its contract: the places below k are there. Assumes nothing.
 use borrow.Author.Needs.{needs}
 use native.Mathlib.Omega.{arith}
 use Prim.Native.Nat.{_-_, _≤_}
 use lib.ListN.{length}
 use lib.Seq.{sets}
 use Rattle.definition.specs.Lists.{tabulate}
-use Rattle.blocks.specs.Blocks.{blocksOf, windowAt}
-use Rattle.blocks.specs.Results.{tile-first, tile-last, tile-next, tile-rooms}
+use Rattle.blocks.specs.Blocks.{blocksOf}
+use Rattle.block_product.specs.Results.{tile-first, tile-last, tile-next, tile-rooms, windowAt}
 use mathlib.Core.Path.{_≡_, refl}
-use Rattle.blocks.proofs.result.Statement.{statement}
-use Rattle.blocks.proofs.result.Tie as tie
+use Rattle.block_product.proofs.result.Statement.{statement}
+use Rattle.block_product.proofs.result.Tie as tie
 
 abbrev Inv-loop : tie.InvT-loop
 Inv-loop p square a left b right j low sums₀ high₀ z₀ n k₀ sums high z k =

@@ -1,11 +1,11 @@
--- `blocks::tile` meets its contract. Assumes nothing.
+-- `block_product::tile` meets its contract. Assumes nothing.
 use borrow.Author.Needs.{needs}
-use Rattle.blocks.specs.Blocks.{tile-done}
+use Rattle.block_product.specs.Results.{tile-done}
 use native.Mathlib.Nat.{le-refl}
 use Rattle.summed_product.specs.Sums.{sums-small}
 use mathlib.Core.Path.{refl}
-use Rattle.blocks.proofs.tile.Statement.{statement}
-use Rattle.blocks.proofs.tile.Tie as tie
+use Rattle.block_product.proofs.tile.Statement.{statement}
+use Rattle.block_product.proofs.tile.Tie as tie
 
 sum-up-requires : tie.Need-sum-up-requires
 sum-up-requires c κs = search needs
