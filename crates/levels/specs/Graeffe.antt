@@ -21,8 +21,8 @@ use lib.Seq.{sets, length-sets}
 use Rattle.algebra.specs.Rows.{length-plane}
 use Rattle.definition.specs.KinoshitaLi.{cutProduct2At, evenPart, opposite, plane, squared, window}
 use Rattle.definition.specs.Lists.{ceilDiv}
-use Rattle.double_product.specs.Opposite.{OppositeRoom}
-use Rattle.double_product.specs.Spread.{SpreadRoom}
+use Rattle.opposite_product.specs.Opposite.{OppositeRoom}
+use Rattle.spread_product.specs.Spread.{SpreadRoom}
 use Rattle.planes.specs.Parity.{oddPart, oddPart-squared}
 use Rattle.product.specs.Double.{productOf}
 use Rattle.product.specs.Planes.{held, held-kept}

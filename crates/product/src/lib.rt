@@ -3,8 +3,8 @@
 ghost use mathlib.Core.Path.{_≡_};
 ghost use Prim.Native.Nat.{_+_, _*_, _<_, _≤_, _^_};
 ghost use Rattle.definition.specs.Lists.{ceilDiv};
-ghost use Rattle.double_product.specs.Opposite.{OppositeRoom};
-ghost use Rattle.double_product.specs.Spread.{SpreadRoom};
+ghost use Rattle.opposite_product.specs.Opposite.{OppositeRoom};
+ghost use Rattle.spread_product.specs.Spread.{SpreadRoom};
 ghost use Rattle.product.specs.Double.{MultipliedOpposite, MultipliedRows};
 ghost use Rattle.product.specs.Single.{Multiplied, MultipliedAdd, Operands};
 
@@ -80,7 +80,7 @@ pub fn multiply_opposite(p: u32, r: usize, w: &mut [u32], a: Rows, t: Rows) -> W
     requires { ⌜ OppositeRoom p r (a .at) (a .count) (t .at) (t .count) (now w) × (a .count * ceilDiv r 2 ≤ 4096) ⌝ }
     ensures { λ q. ⌜ MultipliedOpposite p r a t (now (w .entry)) (now (w .exit)) (q .places) ⌝ }
 {
-    double_product::opposite(p, r, w, a.at, a.count, t.at, t.count);
+    opposite_product::opposite(p, r, w, a.at, a.count, t.at, t.count);
     places_of(r, t)
 }
 
@@ -98,6 +98,6 @@ pub fn multiply_spread(
     requires { ⌜ SpreadRoom p r (a .at) (a .count) (b .at) (b .count) low (t .at) (t .count) (now w) × (b .count * ceilDiv r 2 ≤ 4096) ⌝ }
     ensures { λ q. ⌜ MultipliedRows p r a b low t (now (w .entry)) (now (w .exit)) (q .places) ⌝ }
 {
-    double_product::spread(p, r, w, a.at, a.count, b.at, b.count, low, t.at, t.count);
+    spread_product::spread(p, r, w, a.at, a.count, b.at, b.count, low, t.at, t.count);
     places_of(r, t)
 }
