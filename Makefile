@@ -45,8 +45,13 @@ SEED := 1
 CALLS := 24000
 LARGEST := 4096
 JOBS := 8
+# where the prover puts temporary files, thousands for each check and 250 MB: in memory, where there are 4 GB of it and programs can be run from there
+MEMORY := $(shell [ "$$(df -k --output=avail /dev/shm 2>/dev/null | tail -n 1)" -gt 4194304 ] 2>/dev/null && \
+	cp /bin/true /dev/shm/true.$$$$ && /dev/shm/true.$$$$ && echo /dev/shm; rm -f /dev/shm/true.$$$$)
 
 .PHONY: test run program install bench bench-products stack flint clean toolchain tools
+proofs library definitions wrong-definitions wrong-weights: export TMPDIR := $(or $(MEMORY),/tmp)
+
 .PHONY: formatted trace proofs second definitions wrong-definitions wrong-weights library linked c-interface installed joiner job-tool
 
 test: tools

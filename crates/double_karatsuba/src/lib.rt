@@ -1,6 +1,11 @@
 // Products of parts of polynomials in x and y modulo p: by blocks (`grids`), or, of long parts, by Karatsuba's rule. The even and the odd powers of x of both
 // factors and the sums of the two give three products with half the places, and these are woven into the product (`double_parity`).
 use double_parity::Results;
+use double_parity::even_half;
+use double_parity::fold;
+use double_parity::folded_part;
+use double_parity::odd_half;
+use double_parity::weave;
 use grids::Grid;
 ghost use mathlib.Core.Bool.{false};
 ghost use mathlib.Core.Path.{_≡_};
@@ -157,37 +162,19 @@ pub fn product(
     let mut second: [u32; 4896] = [0; 4896];
     let up = double_parity::upper_half(t);
     let down = double_parity::lower_half(t);
+    product(p, square, even_half(g), w, even_half(h), v, up, &mut even);
+    product(p, square, odd_half(g), w, odd_half(h), v, down, &mut odd);
+    fold(p, g, w, &mut first);
+    fold(p, h, v, &mut second);
     product(
         p,
         square,
-        double_parity::even_half(g),
-        w,
-        double_parity::even_half(h),
-        v,
-        up,
-        &mut even,
-    );
-    product(
-        p,
-        square,
-        double_parity::odd_half(g),
-        w,
-        double_parity::odd_half(h),
-        v,
-        down,
-        &mut odd,
-    );
-    double_parity::fold(p, g, w, &mut first);
-    double_parity::fold(p, h, v, &mut second);
-    product(
-        p,
-        square,
-        double_parity::folded_part(g),
+        folded_part(g),
         &first,
-        double_parity::folded_part(h),
+        folded_part(h),
         &second,
         down,
         &mut sums,
     );
-    double_parity::weave(p, t, &even, &odd, &sums, z);
+    weave(p, t, &even, &odd, &sums, z);
 }
