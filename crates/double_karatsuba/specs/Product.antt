@@ -6,7 +6,7 @@
 --   Multiplied             what it ensures
 --   same-multiplying same-multiplied   both, for equal parts and results
 --   zeros-clean            a list of zeros is clean
---   Few                    the factors take few places in blocks
+--   Fits                   the factors take few places in blocks
 --   square-needs product-needs square-done   by blocks: what is required, and what a square leaves
 --   Long                   the parts are long enough to be halved
 --   places-few             a part takes at least its places in blocks
@@ -27,8 +27,7 @@ use lib.ListN.{length}
 use lib.Seq.{sets, length-sets}
 use Rattle.definition.specs.KinoshitaLi.{cutProduct2At, evenPart, plane, window}
 use Rattle.grids.specs.Grid.{Clean}
-use Rattle.grids.specs.Parts as Grids
-use Rattle.grids.specs.Parts.{Lies, Room, Source, SquarePut, blockPlaces, gridAt, packed, window-0}
+use Rattle.grids.specs.Parts.{Few, Lies, Room, Source, SquarePut, blockPlaces, gridAt, packed, window-0}
 use Rattle.grids.specs.declared.Grid.{Grid}
 use Rattle.double_rows.specs.Places.{packedAt}
 use Rattle.planes.specs.Parity.{oddPart}
@@ -89,25 +88,25 @@ zeros-clean positive z = record {
 }
 
 -- the factors take at most n places in blocks, the second one twice as many
-pub record Few (turned : Bool) (g h : Grid) (n : ℕ) : Type 0 where
+pub record Fits (turned : Bool) (g h : Grid) (n : ℕ) : Type 0 where
   pub first : blockPlaces turned (g .length) (g .count) ≤ n
   pub second : blockPlaces turned (h .length) (h .count) ≤ 2 * n
 
 -- by blocks, in lists of zeros
 module _ {p : ℕ} {square : Bool} {g : Grid} {w : List ℕ} {h : Grid} {v : List ℕ} {t : Results} {z : List ℕ}
-    (m : Multiplying p square g w h v t z) {n : ℕ} (few : Few (t .turned) g h n) {left : List ℕ} (zeros : Zeros (8 + n) left) where
-  first-source : Source p (t .turned) g w left × Grids.Few (t .turned) (g .length) (g .count)
+    (m : Multiplying p square g w h v t z) {n : ℕ} (few : Fits (t .turned) g h n) {left : List ℕ} (zeros : Zeros (8 + n) left) where
+  first-source : Source p (t .turned) g w left × Few (t .turned) (g .length) (g .count)
   first-source = (
     record { modulus = m .modulus; clean = zeros-clean (m .modulus) zeros; room = omega (arith, few .first, zeros .size); lies = m .first },
     record { few = omega (arith, m .few) },
   )
 
   pub square-needs : square ≡ true
-      → Source p (t .turned) g w left × Grids.Few (t .turned) (g .length) (g .count) × Room (t .turned) (t .places) (t .rows) 0 z
+      → Source p (t .turned) g w left × Few (t .turned) (g .length) (g .count) × Room (t .turned) (t .places) (t .rows) 0 z
   square-needs e = (first-source .0, first-source .1, rw (m .squared .first e) at (m .room))
 
   pub product-needs : {right : List ℕ} → Zeros (8 + 2 * n) right
-      → Source p (t .turned) g w left × Grids.Few (t .turned) (g .length) (g .count) × Source p (t .turned) h v right
+      → Source p (t .turned) g w left × Few (t .turned) (g .length) (g .count) × Source p (t .turned) h v right
       × Room (t .turned) (t .places) (t .rows) (t .low) z
   product-needs zeros′ = (
     first-source .0,

@@ -11,7 +11,7 @@ ghost use mathlib.Core.Bool.{false};
 ghost use mathlib.Core.Path.{_≡_};
 ghost use Prim.Native.Nat.{_*_, _<_, _≤_, _^_};
 ghost use Rattle.grids.specs.Parts.{blockPlaces};
-ghost use Rattle.double_karatsuba.specs.Product.{Few, Long, Multiplied, Multiplying};
+ghost use Rattle.double_karatsuba.specs.Product.{Fits, Long, Multiplied, Multiplying};
 
 // Parts with more places are halved.
 const LONGEST_BY_BLOCKS: usize = 1100;
@@ -27,7 +27,7 @@ fn by_short_blocks(
     t: Results,
     z: &mut [u32],
 )
-    requires { ⌜ Multiplying p square g (now w) h (now v) t (now z) × Few (t .turned) g h 1616 ⌝ }
+    requires { ⌜ Multiplying p square g (now w) h (now v) t (now z) × Fits (t .turned) g h 1616 ⌝ }
     ensures { λ _. ⌜ Multiplied p g (now (w .entry)) h (now (v .entry)) t (now (z .entry)) (now (z .exit)) ⌝ }
 {
     let mut left: [u64; 1624] = [0; 1624];
