@@ -44,7 +44,7 @@ ADD_PACKAGES := apt-get update && DEBIAN_FRONTEND=noninteractive apt-get install
 SEED := 1
 CALLS := 24000
 LARGEST := 4096
-JOBS := 8
+JOBS := 10
 # where the prover puts temporary files, thousands for each check and 250 MB: in memory, where there are 4 GB of it and programs can be run from there
 MEMORY := $(shell [ "$$(df -k --output=avail /dev/shm 2>/dev/null | tail -n 1)" -gt 4194304 ] 2>/dev/null && \
 	cp /bin/true /dev/shm/true.$$$$ && /dev/shm/true.$$$$ && echo /dev/shm; rm -f /dev/shm/true.$$$$)
@@ -170,15 +170,14 @@ install: library
 	sed -e "s|@PREFIX@|$$prefix|" -e 's|@VERSION@|$(VERSION)|' include/ruhitapo.pc.in > target/ruhitapo.pc && \
 	install -m 644 target/ruhitapo.pc "$$folder/lib/pkgconfig"
 
-# the definitions, held against the second implementation: the prover computes seeded equations in a repository of their own. The crates
-# that prove the table written out go there as they are proved here
+# the definitions, held against the second implementation: the prover computes seeded equations in a repository of their own, so that other
+# crates can be proved beside them. The crates that prove the table written out go there with what is proved of them here
 definitions: tools $(DEFINITIONS)
-	rt check primes
 	rm -rf target/equations
 	mkdir -p target/equations/crates target/equations/target/rlib target/equations/target/stamp
 	cp -r $(WRITTEN_TABLE:%=crates/%) target/equations/crates
-	cp $(WRITTEN_TABLE:%=target/stamp/%) target/equations/target/stamp
-	cp -r $(WRITTEN_TABLE:%=target/rlib/%.rlib) target/equations/target/rlib
+	for crate in $(WRITTEN_TABLE); do [ ! -f target/stamp/$$crate ] || \
+		{ cp -r target/rlib/$$crate.rlib target/equations/target/rlib && cp target/stamp/$$crate target/equations/target/stamp; }; done
 	sed -n $(WRITTEN_TABLE:%=-e '/^%:/p') crates.txt > target/equations/crates.txt
 	printf '%s: definition\n' $(EQUATIONS) >> target/equations/crates.txt
 	echo 'entries: definition primes' >> target/equations/crates.txt

@@ -1,9 +1,11 @@
 """The gate: each step is a target of the Makefile; one that fails ends its lane and, once what runs beside it has ended, the gate.
 
-The proofs come early, since the tests after them link what was proved. Beside the proofs go two steps that need none, from the first crate on,
-since 'rt ci' begins by removing target/. The tests after the proofs go in two lanes side by side; every step that calls the prover is in the
-first, since two calls at a time would write the same logs. Before the last line stand the seconds of each step, and the crates and the
-must-fail edits that took longest. The last line adds up: what 'rt ci' counted (crates, must-fail edits, programs), and one for each other step.
+The proofs take longest, and leave a processor idle where one crate waits for another; the lanes beside them fill that time, at a lower
+priority. Each begins when the proofs print what it waits for, and not at all where they end before that: no lane begins before the first
+crate, since 'rt ci' begins by removing target/; the equations wait for the crates that they are stated over; the tests of the C interface
+wait for the first must-fail edit, since every crate is proved then. What needs the job program comes after the proofs, which run it last.
+Before the last line stand the seconds of each step, and the crates and the must-fail edits that took longest. The last line adds up: what
+'rt ci' counted (crates, must-fail edits, programs), and one for each other step.
 """
 
 import concurrent.futures
@@ -14,9 +16,13 @@ import threading
 import time
 
 PROOFS = "proofs"
-FIRST = ["formatted", PROOFS, "library"]
-BESIDE = ["trace", "second"]
-LANES = [["wrong-definitions", "wrong-weights"], ["linked", "c-interface", "installed", "joiner", "job-tool"]]
+FIRST = ["formatted", PROOFS]
+BESIDE = [
+    ("rt: definition proved", ["trace", "second"]),
+    ("rt: primes proved", ["wrong-definitions"]),
+    ("rt: must-fail ", ["library", "c-interface", "installed", "joiner", "wrong-weights"]),
+]
+AFTER = [["linked"], ["job-tool"]]
 SLOWEST = 5
 CRATE = re.compile(r"rt: (\w+) proved \((\d+) s\)")
 EDIT = re.compile(r"rt: must-fail (\S+): refused.*?(\d+) s\)")
@@ -28,7 +34,8 @@ class Step:
     def __init__(self, name, shown, read):
         begin = time.monotonic()
         self.name, self.lines = name, []
-        process = subprocess.Popen(["make", "--no-print-directory", name], stdout=subprocess.PIPE, stderr=subprocess.STDOUT, text=True)
+        command = ["make", "--no-print-directory", name] if shown else ["nice", "make", "--no-print-directory", name]
+        process = subprocess.Popen(command, stdout=subprocess.PIPE, stderr=subprocess.STDOUT, text=True)
         for line in process.stdout:
             read(line)
             self.lines.append(line.rstrip())
@@ -63,26 +70,42 @@ def slowest(pattern, steps):
     return ", ".join(f"{name} {seconds} s" for seconds, name in sorted(found, reverse=True)[:SLOWEST])
 
 
+class Beside:
+    """A lane beside the proofs, which begins at a line that they print."""
+
+    def __init__(self, line, names, pool):
+        self.line, self.begun, self.ended = line, threading.Event(), False
+        self.steps = pool.submit(self.run, names)
+
+    def read(self, line):
+        if line.startswith(self.line):
+            self.begun.set()
+
+    def end(self):
+        """No line comes any more."""
+        self.ended = not self.begun.is_set()
+        self.begun.set()
+
+    def run(self, names):
+        self.begun.wait()
+        return [] if self.ended else lane(names, False)
+
+
 def first():
-    """The proofs with what comes before and after them, and the steps beside them."""
-    begun = threading.Event()
-
-    def beside():
-        begun.wait()
-        return lane(BESIDE, False)
-
+    """The proofs with what comes before them, and the lanes beside them."""
     with concurrent.futures.ThreadPoolExecutor() as pool:
-        others = pool.submit(beside)
-        steps = lane(FIRST, True, lambda line: CRATE.match(line) and begun.set())
-        begun.set()
-        return steps + others.result()
+        lanes = [Beside(line, names, pool) for line, names in BESIDE]
+        steps = lane(FIRST, True, lambda line: [beside.read(line) for beside in lanes])
+        for beside in lanes:
+            beside.end()
+        return steps + [step for beside in lanes for step in beside.steps.result()]
 
 
 def main():
     steps = first()
     if not any(step.failed for step in steps):
         with concurrent.futures.ThreadPoolExecutor() as pool:
-            for more in pool.map(lambda names: lane(names, False), LANES):
+            for more in pool.map(lambda names: lane(names, False), AFTER):
                 steps += more
     passed, failed = sum(step.passed for step in steps), sum(step.failed for step in steps)
     print(f"== steps: {', '.join(f'{step.name} {step.seconds:.0f} s' for step in steps)}")
