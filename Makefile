@@ -44,7 +44,7 @@ ADD_PACKAGES := apt-get update && DEBIAN_FRONTEND=noninteractive apt-get install
 SEED := 1
 CALLS := 24000
 LARGEST := 4096
-JOBS := 10
+JOBS := 6
 # where the prover puts temporary files, thousands for each check and 250 MB: in memory, where there are 4 GB of it and programs can be run from there
 MEMORY := $(shell [ "$$(df -k --output=avail /dev/shm 2>/dev/null | tail -n 1)" -gt 4194304 ] 2>/dev/null && \
 	cp /bin/true /dev/shm/true.$$$$ && /dev/shm/true.$$$$ && echo /dev/shm; rm -f /dev/shm/true.$$$$)

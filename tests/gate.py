@@ -1,9 +1,9 @@
 """The gate: each step is a target of the Makefile; one that fails ends its lane and, once what runs beside it has ended, the gate.
 
-The proofs take longest, and leave a processor idle where one crate waits for another; the lanes beside them fill that time, at a lower
-priority. Each begins when the proofs print what it waits for, and not at all where they end before that: no lane begins before the first
-crate, since 'rt ci' begins by removing target/; the equations wait for the crates that they are stated over; the tests of the C interface
-wait for the first must-fail edit, since every crate is proved then. What needs the job program comes after the proofs, which run it last.
+The proofs take longest, and leave a processor idle where crates wait for one; the lanes beside them fill that time. Each begins at a line
+that the proofs print: one when the crates are proved over which the equations are stated, at a lower priority than crates that others wait
+for; one at the first must-fail edit, when every crate is proved and so may be linked. None could begin with the proofs, since 'rt ci'
+begins by removing target/. A lane whose line did not come is begun after the proofs, and left out where these failed.
 Before the last line stand the seconds of each step, and the crates and the must-fail edits that took longest. The last line adds up: what
 'rt ci' counted (crates, must-fail edits, programs), and one for each other step.
 """
@@ -17,12 +17,11 @@ import time
 
 PROOFS = "proofs"
 FIRST = ["formatted", PROOFS]
+MAKE = ["make", "--no-print-directory"]
 BESIDE = [
-    ("rt: definition proved", ["trace", "second"]),
-    ("rt: primes proved", ["wrong-definitions"]),
-    ("rt: must-fail ", ["library", "c-interface", "installed", "joiner", "wrong-weights"]),
+    ("rt: primes proved", ["nice", *MAKE], ["trace", "second", "wrong-definitions"]),
+    ("rt: must-fail ", MAKE, ["library", "linked", "c-interface", "installed", "joiner", "job-tool", "wrong-weights"]),
 ]
-AFTER = [["linked"], ["job-tool"]]
 SLOWEST = 5
 CRATE = re.compile(r"rt: (\w+) proved \((\d+) s\)")
 EDIT = re.compile(r"rt: must-fail (\S+): refused.*?(\d+) s\)")
@@ -31,11 +30,10 @@ EDIT = re.compile(r"rt: must-fail (\S+): refused.*?(\d+) s\)")
 class Step:
     """A step that was run: what it printed, its seconds, and how many of its parts passed and failed."""
 
-    def __init__(self, name, shown, read):
+    def __init__(self, make, name, shown, read):
         begin = time.monotonic()
         self.name, self.lines = name, []
-        command = ["make", "--no-print-directory", name] if shown else ["nice", "make", "--no-print-directory", name]
-        process = subprocess.Popen(command, stdout=subprocess.PIPE, stderr=subprocess.STDOUT, text=True)
+        process = subprocess.Popen([*make, name], stdout=subprocess.PIPE, stderr=subprocess.STDOUT, text=True)
         for line in process.stdout:
             read(line)
             self.lines.append(line.rstrip())
@@ -49,13 +47,13 @@ class Step:
             self.passed, self.failed = (int(found[1]), max(int(found[2]), self.failed)) if found else (0, 1)
 
 
-def lane(names, shown, read=lambda line: None):
+def lane(make, names, shown=False, read=lambda line: None):
     """Runs the steps, up to the first that fails; shows what each prints as it comes, or whole when it has ended. `read` gets each line."""
     steps = []
     for name in names:
         if shown:
             print(f"== {name}", flush=True)
-        steps.append(Step(name, shown, read))
+        steps.append(Step(make, name, shown, read))
         if not shown:
             print("\n".join([f"== {name}", *steps[-1].lines]), flush=True)
         if steps[-1].failed:
@@ -73,40 +71,36 @@ def slowest(pattern, steps):
 class Beside:
     """A lane beside the proofs, which begins at a line that they print."""
 
-    def __init__(self, line, names, pool):
-        self.line, self.begun, self.ended = line, threading.Event(), False
-        self.steps = pool.submit(self.run, names)
+    def __init__(self, pool, line, make, names):
+        self.line, self.begun, self.left_out = line, threading.Event(), False
+        self.steps = pool.submit(self.run, make, names)
 
     def read(self, line):
         if line.startswith(self.line):
             self.begun.set()
 
-    def end(self):
-        """No line comes any more."""
-        self.ended = not self.begun.is_set()
+    def end(self, failed):
+        """The proofs have ended."""
+        self.left_out = failed and not self.begun.is_set()
         self.begun.set()
 
-    def run(self, names):
+    def run(self, make, names):
         self.begun.wait()
-        return [] if self.ended else lane(names, False)
+        return [] if self.left_out else lane(make, names)
 
 
-def first():
+def all_steps():
     """The proofs with what comes before them, and the lanes beside them."""
     with concurrent.futures.ThreadPoolExecutor() as pool:
-        lanes = [Beside(line, names, pool) for line, names in BESIDE]
-        steps = lane(FIRST, True, lambda line: [beside.read(line) for beside in lanes])
+        lanes = [Beside(pool, *each) for each in BESIDE]
+        steps = lane(MAKE, FIRST, True, lambda line: [beside.read(line) for beside in lanes])
         for beside in lanes:
-            beside.end()
+            beside.end(steps[-1].failed)
         return steps + [step for beside in lanes for step in beside.steps.result()]
 
 
 def main():
-    steps = first()
-    if not any(step.failed for step in steps):
-        with concurrent.futures.ThreadPoolExecutor() as pool:
-            for more in pool.map(lambda names: lane(names, False), AFTER):
-                steps += more
+    steps = all_steps()
     passed, failed = sum(step.passed for step in steps), sum(step.failed for step in steps)
     print(f"== steps: {', '.join(f'{step.name} {step.seconds:.0f} s' for step in steps)}")
     print(f"== slowest crates: {slowest(CRATE, steps)}")

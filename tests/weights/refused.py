@@ -28,8 +28,10 @@ def check(room, crate):
     return done.returncode == 0, done.stdout + done.stderr
 
 
-def tried(room, edit):
-    """Makes the edit in the copy, and says whether the compiler refused it for the private field; the copy is as before afterwards."""
+def tried(repository, room, edit):
+    """Makes the edit in a copy, and says whether the compiler refused it for the private field. Each edit has a copy of its own, since a
+    crate that was refused would have to be proved again."""
+    copied(repository, room)
     name, old, new = (line.split(": ", 1)[1] for line in edit.read_text(encoding="utf-8").splitlines())
     crate = name.split("/")[0]
     file = room / "crates" / name
@@ -40,17 +42,15 @@ def tried(room, edit):
         return False, f"{crate} is not admitted without it"
     file.write_text(text.replace(old, new), encoding="utf-8")
     admitted, said = check(room, crate)
-    file.write_text(text, encoding="utf-8")
     refused = not admitted and f"{file}:" in said and REFUSAL in said
     return refused, f"refused: {REFUSAL}" if refused else "NOT REFUSED AS IT MUST BE"
 
 
 def main(repository, room):
-    copied(repository, room)
     edits = sorted(EDITS.glob("*.edit"))
     passed = 0
     for edit in edits:
-        ok, line = tried(room, edit)
+        ok, line = tried(repository, room, edit)
         passed += ok
         print(f"{edit.stem}: {line}", flush=True)
     print(f"{passed} passed, {len(edits) - passed} failed")
