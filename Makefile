@@ -83,7 +83,7 @@ trace: tools $(DEFINITIONS)
 	python3 -B tests/trace/contracts.py
 	python3 -B tests/trace/dependencies.py
 
-# from nothing: every crate is proved, every must-fail edit refused, every program run on its stored input; eight at a time on two processors too,
+# from nothing: every crate is proved, every must-fail edit refused, every program run on its stored input; six at a time on two processors too,
 # since rt waits for all of a batch before it starts the next
 proofs: toolchain
 	RT_JOBS=$(JOBS) rt ci
