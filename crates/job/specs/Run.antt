@@ -24,7 +24,7 @@ use Rattle.definition.specs.Substitution.{composed}
 use Rattle.definition.specs.Weight.{weight}
 use Rattle.job_file.specs.File.{Accepted, length-listAt, small-inner, small-order, small-outer}
 use Rattle.refusal.specs.Bounds.{compose-bounds}
-use Rattle.refusal.specs.Tests.{absent, passed}
+use Rattle.refusal_tests.specs.Tests.{absent, passed}
 
 length-outer : (file : List ℕ) → length (outer file) ≡ field file 3
 unfolding outer

@@ -25,7 +25,7 @@ use Rattle.algebra.specs.Lists.{length-tabulate}
 use Rattle.buffer.specs.Filling.{Filling, filling-last}
 use Rattle.buffer.specs.Written.{sets-whole}
 use Rattle.definition.specs.Job.{cutShort, field, headerBytes, listAt, misplaced, mostBytes, mostPlaces, order, tooLarge, wordOf}
-use Rattle.refusal.specs.Tests.{either-false}
+use Rattle.refusal_tests.specs.Tests.{either-false}
 
 pub placed : (file : List ℕ) (count at : ℕ) → misplaced file count at ≡ false → (i : ℕ) → i < count → at + 4 * i + 4 ≤ length file
 unfolding headerBytes misplaced

@@ -1,7 +1,6 @@
 -- a(x, y) a(-x, y), from the squares of the even and the odd part of a.
 --
 --   oppositeProduct p a    the product modulo p
---   Lists                  lists that are room for the parts of a product with at most `side` in its shorter direction
 --   OppositeRoom           what the product requires of the rows, and of the lists
 --   even-square odd-square what the two squares require
 --   opposite-putting       what writing the rows requires
@@ -15,7 +14,7 @@ use mathlib.Core.Bool.{Bool, true, true≢false}
 use mathlib.Core.List.{List}
 use mathlib.Core.Path.{_≡_, refl, sym, ap, _∙_}
 use lib.Dec.{ltb}
-use lib.ListN.{length, getD}
+use lib.ListN.{length}
 use lib.Seq.{sets, length-sets}
 use Rattle.algebra.specs.Rows.{plane-agree}
 use Rattle.definition.specs.KinoshitaLi.{cutProduct2At, evenPart, opposite, plane}
@@ -29,6 +28,7 @@ use Rattle.double_parity.specs.Packed.{packed-at, packed-below}
 use Rattle.double_karatsuba.specs.Product.{Multiplied, Multiplying, same-multiplied, zeros-clean}
 use Rattle.double_parity.specs.declared.Results.{Results}
 use Rattle.double_rows.specs.Places.{Putting, oppositePlace, packedAt, placeOf}
+use Rattle.double_parts.specs.Made.{Made, made}
 use Rattle.double_parts.specs.Rows.{Reading, half-near, half-positive, blocks-few, every, every-even, every-odd, everySecond, lies-even, lies-odd, resultsOf, rowsAt}
 
 -- the square of a part, written to a list
@@ -46,13 +46,6 @@ module _ (p : ℕ) (turned : Bool) (m count : ℕ) (w z : List ℕ) {z′ : List
 abbrev pub oppositeProduct : ℕ → (ℕ → ℕ → ℕ) → ℕ → ℕ → ℕ
 oppositeProduct p a = cutProduct2At p a (opposite p a)
 
-pub record Lists (p side : ℕ) (even odd : List ℕ) : Type 0 where
-  pub few : side ≤ 64
-  pub even-room : 2 * (side * side) ≤ length even
-  pub odd-room : 2 * (side * side) ≤ length odd
-  pub even-below : (k : ℕ) → getD even k 0 < p
-  pub odd-below : (k : ℕ) → getD odd k 0 < p
-
 pub record OppositeRoom (p r at rows t count : ℕ) (w : List ℕ) : Type 0 where
   pub reading : Reading p r at rows w
   pub target : t + count * r ≤ length w
@@ -62,7 +55,7 @@ pub record OppositeRoom (p r at rows t count : ℕ) (w : List ℕ) : Type 0 wher
 -- lists that are room for the parts of a product of so many rows
 pub record Sized (p r rows : ℕ) (left even odd : List ℕ) : Type 0 where
   pub side : ℕ
-  pub lists : Lists p side even odd
+  pub lists : Made p side (2 * (side * side)) even odd
   pub clean : Clean p left
   pub left-room : 8 + (side * side + 8 * side) ≤ length left
   pub size : rows * ceilDiv r 2 ≤ side * side
@@ -91,7 +84,7 @@ module _ {side rows half count : ℕ} (b : Bounded side rows half count) where
   few-blocks = omega (arith, area, b .few)
 
 module _ {p r at rows t count : ℕ} {w : List ℕ} (room : OppositeRoom p r at rows t count w) {side half : ℕ} {even odd : List ℕ}
-    (lists : Lists p side even odd) (size : rows * half ≤ side * side) (eh : half ≡ ceilDiv r 2) {turned : Bool} (et : turned ≡ ltb half rows) where
+    (lists : Made p side (2 * (side * side)) even odd) (size : rows * half ≤ side * side) (eh : half ≡ ceilDiv r 2) {turned : Bool} (et : turned ≡ ltb half rows) where
   bounds : Bounded side rows half count
   bounds = record { few = lists .few; size = size; positive = rw eh (half-positive (room .reading .positive) .0); doubled = room .doubled }
 
@@ -228,21 +221,11 @@ module _ {p r at rows t count : ℕ} {w : List ℕ} (room : OppositeRoom p r at 
         → w′ ≡ sets w t (plane r count (oppositeProduct p Q))
     opposite-written e = e ∙ ap (sets w t) (plane-agree r count place-at)
 
-pub made : {p : ℕ} → 0 < p → (side : ℕ) {even odd : List ℕ} → side ≤ 64 → Zeros (2 * (side * side)) even → Zeros (2 * (side * side)) odd
-    → Lists p side even odd
-made positive side few e o = record {
-  few = few;
-  even-room = rw (e .size) (le-refl _);
-  odd-room = rw (o .size) (le-refl _);
-  even-below = λ k. rw (e .blank k) positive;
-  odd-below = λ k. rw (o .blank k) positive;
-}
-
 pub sized : {p : ℕ} → 0 < p → (r rows side : ℕ) {left even odd : List ℕ} → side ≤ 64 → rows * ceilDiv r 2 ≤ side * side
     → Zeros (8 + (side * side + 8 * side)) left → Zeros (2 * (side * side)) even → Zeros (2 * (side * side)) odd → Sized p r rows left even odd
 sized positive r rows side few size l e o = record {
   side = side;
-  lists = made positive side few e o;
+  lists = made positive few e o;
   clean = zeros-clean positive l;
   left-room = rw (l .size) (le-refl _);
   size = size;

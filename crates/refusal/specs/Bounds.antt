@@ -20,7 +20,7 @@ use Rattle.definition.specs.Lists.{coefficient}
 use Rattle.definition.specs.Prime.{Prime, largestModulus}
 use Rattle.definition.specs.Refusal.{badModulus, badOrder, composeRefusal, composeWork, cycleRefusal, cycleWork, exceeds, first, hasConstant, irreversible, limit, mostCycles, openRefusal, renderRefusal, reverseRefusal, test}
 use Rattle.field.specs.Opening.{good-modulus}
-use Rattle.refusal.specs.Tests.{
+use Rattle.refusal_tests.specs.Tests.{
   Passed,
   absent,
   constant-zero,

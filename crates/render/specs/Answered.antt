@@ -18,7 +18,7 @@ use Rattle.definition.specs.Refusal.{renderRefusal}
 use Rattle.definition.specs.Text.{accepted, refused, rendered}
 use Rattle.refusal.specs.Answers.{answered-accepted, answered-refused, kept-accepted, kept-refused}
 use Rattle.refusal.specs.Bounds.{render-bounds}
-use Rattle.refusal.specs.Tests.{Passed, first-same, listTests}
+use Rattle.refusal_tests.specs.Tests.{Passed, first-same, listTests}
 use Rattle.decimal.specs.Writing.{Written}
 
 pub rendered-accepted : {number : ℕ} (n weight : ℕ) (l : List ℕ) → number ≡ 0 → rendered number n weight l ≡ accepted n weight l

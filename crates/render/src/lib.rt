@@ -4,7 +4,7 @@ ghost use mathlib.Core.Path.{_≡_};
 ghost use Prim.Native.Nat.{_≤_};
 ghost use Rattle.definition.specs.Calls.{Render};
 ghost use Rattle.definition.specs.Text.{rendered};
-ghost use Rattle.refusal.specs.Tests.{Passed, listTests};
+ghost use Rattle.refusal_tests.specs.Tests.{Passed, listTests};
 ghost use Rattle.decimal.specs.Writing.{Written};
 
 // What rendering answers: the number, and the count of bytes written (0 where it is refused).

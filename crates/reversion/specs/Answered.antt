@@ -22,7 +22,7 @@ use Rattle.definition.specs.Refusal.{composeWork, irreversible, reverseRefusal}
 use Rattle.definition.specs.Reversion.{Reversion}
 use Rattle.refusal.specs.Answers.{kept-accepted, kept-refused}
 use Rattle.refusal.specs.Bounds.{ReverseBounds, field-lent, reverse-bounds, reverse-nine}
-use Rattle.refusal.specs.Tests.{either-false}
+use Rattle.refusal_tests.specs.Tests.{either-false}
 use Rattle.newton_step.specs.Step.{Reversed}
 use Rattle.reversion.specs.Iteration.{Reversible}
 use Rattle.route.specs.Within.{cleared-within}

@@ -1,6 +1,6 @@
 -- a(x^2, y) b(x, y), from the products of a(x, y) with the even and with the odd part of b.
 --
---   SpreadLists            lists that are room for the parts of such a product with at most `side` in its shorter direction
+--   spreadProduct          rows of the product modulo p, moved down to 0
 --   SpreadRoom             what the product requires of the rows
 --   SpreadSized            and of the lists
 --   even-factors odd-factors   what the two products require
@@ -15,7 +15,7 @@ use mathlib.Core.Bool.{Bool, false, false≢true, true}
 use mathlib.Core.List.{List}
 use mathlib.Core.Path.{_≡_, refl, sym, ap, fun-ext, _∙_}
 use lib.Dec.{ltb}
-use lib.ListN.{length, getD}
+use lib.ListN.{length}
 use lib.Seq.{sets, length-sets}
 use Rattle.algebra.specs.Plane.{AgreePlane}
 use Rattle.algebra.specs.Rows.{plane-agree}
@@ -31,16 +31,13 @@ use Rattle.planes.specs.Products.{product2-agree, product2-comm}
 use Rattle.double_parity.specs.Packed.{packed-at, packed-below}
 use Rattle.double_karatsuba.specs.Product.{Multiplied, Multiplying, same-multiplied, zeros-clean}
 use Rattle.double_parity.specs.declared.Results.{Results}
+use Rattle.double_parts.specs.Made.{Made, made}
 use Rattle.double_parts.specs.Rows.{half-near, half-positive}
 use Rattle.double_rows.specs.Places.{Putting, packedAt, placeOf, spreadPlace}
 use Rattle.double_parts.specs.Rows.{Reading, blocks-few, every, every-even, every-odd, everySecond, lies-even, lies-odd, lies-second, resultsOf, rowsAt, shorter}
 
-pub record SpreadLists (p side : ℕ) (even odd : List ℕ) : Type 0 where
-  pub few : side ≤ 64
-  pub even-room : side * side ≤ length even
-  pub odd-room : side * side ≤ length odd
-  pub even-below : (k : ℕ) → getD even k 0 < p
-  pub odd-below : (k : ℕ) → getD odd k 0 < p
+abbrev pub spreadProduct : ℕ → ℕ → List ℕ → (a rows b more low : ℕ) → ℕ → ℕ → ℕ
+spreadProduct p r w a rows b more low = window low (cutProduct2At p (rowsAt r w a rows) (rowsAt r w b more))
 
 -- a product of parts that are known by equations
 module _ (p : ℕ) (turned : Bool) (m count low : ℕ) (w z : List ℕ) {z′ : List ℕ} {g g′ h h′ : Grid} (e : g ≡ g′) (f : h ≡ h′) where
@@ -71,7 +68,7 @@ pub record SpreadRoom (p r a rows b more low t count : ℕ) (w : List ℕ) : Typ
 
 pub record SpreadSized (p r more : ℕ) (left right even odd : List ℕ) : Type 0 where
   pub side : ℕ
-  pub lists : SpreadLists p side even odd
+  pub lists : Made p side (side * side) even odd
   pub factors : SpreadFactors p side left right
   pub size : more * ceilDiv r 2 ≤ side * side
 
@@ -101,7 +98,7 @@ squared-of a zeros = fun-ext λ j. fun-ext λ i. at j i (i % 2) refl
         rw (ne-eqb (i % 2) 0 (λ z. omega arith)) (ap (a j) same ∙ zeros j (i / 2))
 
 module _ {p r a rows b more low t count : ℕ} {w : List ℕ} (room : SpreadRoom p r a rows b more low t count w) {side half : ℕ}
-    {even odd : List ℕ} (lists : SpreadLists p side even odd) (size : more * half ≤ side * side) (eh : half ≡ ceilDiv r 2)
+    {even odd : List ℕ} (lists : Made p side (side * side) even odd) (size : more * half ≤ side * side) (eh : half ≡ ceilDiv r 2)
     {turned : Bool} (et : turned ≡ ltb half more) where
   area : side * side ≤ 4096
   area = mul-le-mul {n₂ = 64} {m₂ = 64} (lists .few) (lists .few)
@@ -298,22 +295,12 @@ module _ {p r a rows b more low t count : ℕ} {w : List ℕ} (room : SpreadRoom
         → w′ ≡ sets w t (plane r count (window low (cutProduct2At p A B)))
     spread-written e = e ∙ ap (sets w t) (plane-agree r count place-at)
 
-pub spread-made : {p : ℕ} → 0 < p → (side : ℕ) {even odd : List ℕ} → side ≤ 64 → Zeros (side * side) even → Zeros (side * side) odd
-    → SpreadLists p side even odd
-spread-made positive side few e o = record {
-  few = few;
-  even-room = rw (e .size) (le-refl _);
-  odd-room = rw (o .size) (le-refl _);
-  even-below = λ k. rw (e .blank k) positive;
-  odd-below = λ k. rw (o .blank k) positive;
-}
-
 pub spread-sized : {p : ℕ} → 0 < p → (r more side : ℕ) {left right even odd : List ℕ} → side ≤ 64 → more * ceilDiv r 2 ≤ side * side
     → Zeros (8 + (side * side + 8 * side)) left → Zeros (8 + (2 * (side * side) + 16 * side)) right → Zeros (side * side) even
     → Zeros (side * side) odd → SpreadSized p r more left right even odd
 spread-sized positive r more side few size l m e o = record {
   side = side;
-  lists = spread-made positive side few e o;
+  lists = made positive few e o;
   factors = record {
     clean-left = zeros-clean positive l;
     clean-right = zeros-clean positive m;

@@ -3,10 +3,9 @@
 ghost use mathlib.Core.Path.{_≡_};
 ghost use Prim.Native.Nat.{_*_, _≤_};
 ghost use lib.Seq.{sets};
-ghost use Rattle.definition.specs.KinoshitaLi.{cutProduct2At, plane, window};
+ghost use Rattle.definition.specs.KinoshitaLi.{plane};
 ghost use Rattle.definition.specs.Lists.{ceilDiv};
-ghost use Rattle.double_parts.specs.Rows.{rowsAt};
-ghost use Rattle.spread_product.specs.Spread.{SpreadRoom, SpreadSized};
+ghost use Rattle.spread_product.specs.Spread.{SpreadRoom, SpreadSized, spreadProduct};
 
 // The `count` rows of r places from t on become the rows from `low` on of the product of a polynomial in x^2 and y, in the rows from a on, and of one in x and y, in the
 // rows from b on. The lists are room.
@@ -27,8 +26,7 @@ fn spread_in(
     odd: &mut [u32],
 )
     requires { ⌜ SpreadRoom p r a rows b more low t count (now w) × SpreadSized p r more (now left) (now right) (now even) (now odd) ⌝ }
-    ensures { λ s. ⌜ now (w .exit) ≡ sets (now (w .entry)) t
-        (plane r count (window low (cutProduct2At p (rowsAt r (now (w .entry)) a rows) (rowsAt r (now (w .entry)) b more)))) ⌝ }
+    ensures { λ s. ⌜ now (w .exit) ≡ sets (now (w .entry)) t (plane r count (spreadProduct p r (now (w .entry)) a rows b more low)) ⌝ }
 {
     let half = number::rounded_up(r, 2);
     let rest = r - half;
@@ -56,8 +54,7 @@ fn spread_tiny(
     count: usize,
 )
     requires { ⌜ SpreadRoom p r a rows b more low t count (now w) × (more * ceilDiv r 2 ≤ 64) ⌝ }
-    ensures { λ s. ⌜ now (w .exit) ≡ sets (now (w .entry)) t
-        (plane r count (window low (cutProduct2At p (rowsAt r (now (w .entry)) a rows) (rowsAt r (now (w .entry)) b more)))) ⌝ }
+    ensures { λ s. ⌜ now (w .exit) ≡ sets (now (w .entry)) t (plane r count (spreadProduct p r (now (w .entry)) a rows b more low)) ⌝ }
 {
     let mut left: [u64; 136] = [0; 136];
     let mut right: [u64; 264] = [0; 264];
@@ -95,8 +92,7 @@ fn spread_small(
     count: usize,
 )
     requires { ⌜ SpreadRoom p r a rows b more low t count (now w) × (more * ceilDiv r 2 ≤ 256) ⌝ }
-    ensures { λ s. ⌜ now (w .exit) ≡ sets (now (w .entry)) t
-        (plane r count (window low (cutProduct2At p (rowsAt r (now (w .entry)) a rows) (rowsAt r (now (w .entry)) b more)))) ⌝ }
+    ensures { λ s. ⌜ now (w .exit) ≡ sets (now (w .entry)) t (plane r count (spreadProduct p r (now (w .entry)) a rows b more low)) ⌝ }
 {
     let mut left: [u64; 392] = [0; 392];
     let mut right: [u64; 776] = [0; 776];
@@ -134,8 +130,7 @@ fn spread_large(
     count: usize,
 )
     requires { ⌜ SpreadRoom p r a rows b more low t count (now w) × (more * ceilDiv r 2 ≤ 4096) ⌝ }
-    ensures { λ s. ⌜ now (w .exit) ≡ sets (now (w .entry)) t
-        (plane r count (window low (cutProduct2At p (rowsAt r (now (w .entry)) a rows) (rowsAt r (now (w .entry)) b more)))) ⌝ }
+    ensures { λ s. ⌜ now (w .exit) ≡ sets (now (w .entry)) t (plane r count (spreadProduct p r (now (w .entry)) a rows b more low)) ⌝ }
 {
     let half = number::rounded_up(r, 2);
     let rest = r - half;
@@ -168,8 +163,7 @@ pub fn spread(
     count: usize,
 )
     requires { ⌜ SpreadRoom p r a rows b more low t count (now w) × (more * ceilDiv r 2 ≤ 4096) ⌝ }
-    ensures { λ s. ⌜ now (w .exit) ≡ sets (now (w .entry)) t
-        (plane r count (window low (cutProduct2At p (rowsAt r (now (w .entry)) a rows) (rowsAt r (now (w .entry)) b more)))) ⌝ }
+    ensures { λ s. ⌜ now (w .exit) ≡ sets (now (w .entry)) t (plane r count (spreadProduct p r (now (w .entry)) a rows b more low)) ⌝ }
 {
     let places = more * number::rounded_up(r, 2);
     if places <= 64 {

@@ -5,7 +5,8 @@ use Prim.Native.Nat.{_*_, _<_, _≤_}
 use lib.ListN.{replicate}
 use mathlib.Core.Path.{refl}
 use Rattle.double_karatsuba.specs.Product.{same-multiplying}
-use Rattle.opposite_product.specs.Opposite.{Lists, even-multiplying, long-square-of, made, odd-multiplying, opposite-putting, opposite-written}
+use Rattle.double_parts.specs.Made.{Made, made}
+use Rattle.opposite_product.specs.Opposite.{even-multiplying, long-square-of, odd-multiplying, opposite-putting, opposite-written}
 use Rattle.double_parts.specs.Rows.{half-positive, half-size}
 use Rattle.summed_product.specs.Zeros.{zeros-replicate}
 use Rattle.opposite_product.proofs.opposite_large.Statement.{statement}
@@ -24,8 +25,8 @@ within c = omega (arith, c .rounded-up .ensures, half-positive (start c .pre .0 
 size : (c : tie.After-rounded-up) → start c .args .rows * c .rounded-up .result ≤ 64 * 64
 size c = half-size _ _ (c .rounded-up .ensures) (start c .pre .1)
 
-lists : (c : tie.After-rounded-up) → Lists (start c .args .p) 64 (replicate 8192 0) (replicate 8192 0)
-lists c = made (start c .pre .0 .reading .modulus) 64 (omega arith) (zeros-replicate 8192) (zeros-replicate 8192)
+lists : (c : tie.After-rounded-up) → Made (start c .args .p) 64 (2 * (64 * 64)) (replicate 8192 0) (replicate 8192 0)
+lists c = made (start c .pre .0 .reading .modulus) (omega arith) (zeros-replicate 8192) (zeros-replicate 8192)
 
 abbrev half : tie.After-results2 → tie.After-rounded-up
 half c = c .before .before .before .before

@@ -3,7 +3,7 @@ use borrow.Author.Needs.{needs}
 use native.Mathlib.Omega.{arith}
 use mathlib.Core.Path.{refl}
 use Rattle.definition.specs.Refusal.{cycleRefusal, notPlaces, test, tooLong}
-use Rattle.refusal.specs.Tests.{absent, either, followed, told}
+use Rattle.refusal_tests.specs.Tests.{absent, either, followed, told}
 use Rattle.refusal.proofs.cycle.Statement.{statement}
 use Rattle.refusal.proofs.cycle.Tie as tie
 

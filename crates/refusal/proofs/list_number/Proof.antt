@@ -3,7 +3,7 @@ use borrow.Author.Needs.{needs}
 use borrow.Author.Tests.{eq-eqb, ne-eqb}
 use mathlib.Core.Path.{refl}
 use Rattle.definition.specs.Refusal.{first, notPlaces, test}
-use Rattle.refusal.specs.Tests.{absent, followed, numberAfter, told}
+use Rattle.refusal_tests.specs.Tests.{absent, followed, numberAfter, told}
 use Rattle.refusal.proofs.list_number.Statement.{statement}
 use Rattle.refusal.proofs.list_number.Tie as tie
 

@@ -2,7 +2,7 @@
 use borrow.Author.Needs.{needs}
 use mathlib.Core.Path.{refl}
 use Rattle.definition.specs.Refusal.{renderRefusal, test}
-use Rattle.refusal.specs.Tests.{absent, followed}
+use Rattle.refusal_tests.specs.Tests.{absent, followed}
 use Rattle.refusal.proofs.render.Statement.{statement}
 use Rattle.refusal.proofs.render.Tie as tie
 

@@ -2,7 +2,7 @@
 use borrow.Author.Needs.{needs}
 use mathlib.Core.Path.{refl}
 use Rattle.definition.specs.Refusal.{notPlaces, reverseRefusal, test, tooLong}
-use Rattle.refusal.specs.Tests.{absent, followed, told}
+use Rattle.refusal_tests.specs.Tests.{absent, followed, told}
 use Rattle.refusal.proofs.reverse.Statement.{statement}
 use Rattle.refusal.proofs.reverse.Tie as tie
 

@@ -3,7 +3,7 @@ use borrow.Author.Needs.{needs}
 use lib.ListN.{length}
 use mathlib.Core.Path.{sym, ap, _∙_}
 use Rattle.refusal.specs.Bounds.{list-bounds, list-passed}
-use Rattle.refusal.specs.Tests.{first-passed}
+use Rattle.refusal_tests.specs.Tests.{first-passed}
 use Rattle.render.specs.Answered.{rendered-accepted, rendered-refused}
 use Rattle.render.proofs.rendered_places.Statement.{statement}
 use Rattle.render.proofs.rendered_places.Tie as tie

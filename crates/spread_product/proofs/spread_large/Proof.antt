@@ -7,7 +7,8 @@ use mathlib.Core.Path.{refl}
 use Rattle.double_karatsuba.specs.Product.{same-multiplying}
 use Rattle.double_parts.specs.Rows.{half-positive, half-size}
 use Rattle.double_parts.specs.Rows.{next-fits}
-use Rattle.spread_product.specs.Spread.{SpreadLists, even-multiplying, long-product-of, odd-multiplying, spread-made, spread-putting, spread-written}
+use Rattle.double_parts.specs.Made.{Made, made}
+use Rattle.spread_product.specs.Spread.{even-multiplying, long-product-of, odd-multiplying, spread-putting, spread-written}
 use Rattle.summed_product.specs.Zeros.{zeros-replicate}
 use Rattle.spread_product.proofs.spread_large.Statement.{statement}
 use Rattle.spread_product.proofs.spread_large.Tie as tie
@@ -18,8 +19,8 @@ start c = c .before .before
 size : (c : tie.After-rounded-up) → start c .args .more * c .rounded-up .result ≤ 64 * 64
 size c = half-size _ _ (c .rounded-up .ensures) (start c .pre .1)
 
-lists : (c : tie.After-rounded-up) → SpreadLists (start c .args .p) 64 (replicate 4096 0) (replicate 4096 0)
-lists c = spread-made (start c .pre .0 .first .modulus) 64 (omega arith) (zeros-replicate 4096) (zeros-replicate 4096)
+lists : (c : tie.After-rounded-up) → Made (start c .args .p) 64 (64 * 64) (replicate 4096 0) (replicate 4096 0)
+lists c = made (start c .pre .0 .first .modulus) (omega arith) (zeros-replicate 4096) (zeros-replicate 4096)
 
 abbrev half : tie.After-results → tie.After-rounded-up
 half c = c .before .before .before

@@ -1,8 +1,8 @@
--- `refusal::bad_order` meets its contract. Assumes nothing.
+-- `refusal_tests::bad_order` meets its contract. Assumes nothing.
 use borrow.Author.Tests.{eq-eqb, ne-eqb}
 use Rattle.definition.specs.Refusal.{badOrder}
-use Rattle.refusal.proofs.bad_order.Statement.{statement}
-use Rattle.refusal.proofs.bad_order.Tie as tie
+use Rattle.refusal_tests.proofs.bad_order.Statement.{statement}
+use Rattle.refusal_tests.proofs.bad_order.Tie as tie
 
 returns : tie.Need-returns
 unfolding badOrder

@@ -1,9 +1,9 @@
--- `refusal::coefficient_number` meets its contract. Assumes nothing.
+-- `refusal_tests::coefficient_number` meets its contract. Assumes nothing.
 use borrow.Author.Needs.{needs}
 use mathlib.Core.Path.{sym, _∙_}
-use Rattle.refusal.specs.Tests.{after-earlier, after-fired, after-passed}
-use Rattle.refusal.proofs.coefficient_number.Statement.{statement}
-use Rattle.refusal.proofs.coefficient_number.Tie as tie
+use Rattle.refusal_tests.specs.Tests.{after-earlier, after-fired, after-passed}
+use Rattle.refusal_tests.proofs.coefficient_number.Statement.{statement}
+use Rattle.refusal_tests.proofs.coefficient_number.Tie as tie
 
 returns : tie.Need-returns
 returns c = after-earlier _ _ (c .if1 .taken)

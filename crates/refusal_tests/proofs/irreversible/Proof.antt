@@ -1,10 +1,10 @@
--- `refusal::irreversible` meets its contract. Assumes nothing.
+-- `refusal_tests::irreversible` meets its contract. Assumes nothing.
 use borrow.Author.Needs.{needs}
 use mathlib.Core.Path.{sym, _∙_}
 use Rattle.definition.specs.Refusal.{irreversible}
 use borrow.Author.Tests.{eq-eqb, ne-eqb, lt-ltb, le-ltb}
-use Rattle.refusal.proofs.irreversible.Statement.{statement}
-use Rattle.refusal.proofs.irreversible.Tie as tie
+use Rattle.refusal_tests.proofs.irreversible.Statement.{statement}
+use Rattle.refusal_tests.proofs.irreversible.Tie as tie
 
 place-requires : tie.Need-place-requires
 place-requires c κs = search needs

@@ -1,7 +1,7 @@
--- `refusal::next_number` meets its contract. Assumes nothing.
-use Rattle.refusal.specs.Tests.{after-earlier, after-fired, after-passed}
-use Rattle.refusal.proofs.next_number.Statement.{statement}
-use Rattle.refusal.proofs.next_number.Tie as tie
+-- `refusal_tests::next_number` meets its contract. Assumes nothing.
+use Rattle.refusal_tests.specs.Tests.{after-earlier, after-fired, after-passed}
+use Rattle.refusal_tests.proofs.next_number.Statement.{statement}
+use Rattle.refusal_tests.proofs.next_number.Tie as tie
 
 returns : tie.Need-returns
 returns c = after-earlier _ _ (c .if1 .taken)

@@ -1,9 +1,9 @@
--- `refusal::routed_number` meets its contract. Assumes nothing.
+-- `refusal_tests::routed_number` meets its contract. Assumes nothing.
 use borrow.Author.Needs.{needs}
 use mathlib.Core.Path.{_∙_}
 use Rattle.definition.specs.Refusal.{first, test}
-use Rattle.refusal.proofs.routed_number.Statement.{statement}
-use Rattle.refusal.proofs.routed_number.Tie as tie
+use Rattle.refusal_tests.proofs.routed_number.Statement.{statement}
+use Rattle.refusal_tests.proofs.routed_number.Tie as tie
 
 bad-route-requires : tie.Need-bad-route-requires
 bad-route-requires c κs = search needs

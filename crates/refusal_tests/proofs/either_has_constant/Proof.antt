@@ -1,10 +1,10 @@
--- `refusal::either_has_constant` meets its contract. Assumes nothing.
+-- `refusal_tests::either_has_constant` meets its contract. Assumes nothing.
 use borrow.Author.Needs.{needs}
 use mathlib.Core.Path.{sym, _∙_}
 use Rattle.definition.specs.Refusal.{hasConstant}
 use borrow.Author.Tests.{eq-eqb, ne-eqb}
-use Rattle.refusal.proofs.either_has_constant.Statement.{statement}
-use Rattle.refusal.proofs.either_has_constant.Tie as tie
+use Rattle.refusal_tests.proofs.either_has_constant.Statement.{statement}
+use Rattle.refusal_tests.proofs.either_has_constant.Tie as tie
 
 place-requires : tie.Need-place-requires
 place-requires c κs = search needs

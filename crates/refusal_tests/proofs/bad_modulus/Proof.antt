@@ -1,4 +1,4 @@
--- `refusal::bad_modulus` meets its contract: a number of the table is a prime below the largest modulus, and of any other what the refusing
+-- `refusal_tests::bad_modulus` meets its contract: a number of the table is a prime below the largest modulus, and of any other what the refusing
 -- constructor answers tells. Assumes nothing.
 use borrow.Author.Needs.{needs}
 use mathlib.Core.Path.{sym, _∙_}
@@ -6,8 +6,8 @@ use native.Mathlib.Omega.{arith}
 use Rattle.definition.specs.Prime.{largestModulus}
 use Rattle.field.specs.Opening.{prime-taken, refused-modulus, taken-modulus}
 use Rattle.primes.specs.Table.{member-prime}
-use Rattle.refusal.proofs.bad_modulus.Statement.{statement}
-use Rattle.refusal.proofs.bad_modulus.Tie as tie
+use Rattle.refusal_tests.proofs.bad_modulus.Statement.{statement}
+use Rattle.refusal_tests.proofs.bad_modulus.Tie as tie
 
 in-table-requires : tie.Need-in-table-requires
 in-table-requires c κs = search needs

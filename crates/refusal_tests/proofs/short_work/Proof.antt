@@ -1,10 +1,10 @@
--- `refusal::short_work` meets its contract. Assumes nothing.
+-- `refusal_tests::short_work` meets its contract. Assumes nothing.
 use borrow.Author.Needs.{needs}
 use native.Mathlib.Omega.{arith}
 use mathlib.Core.Path.{sym}
-use Rattle.refusal.specs.Tests.{factor-fits, short-factor, short-rest}
-use Rattle.refusal.proofs.short_work.Statement.{statement}
-use Rattle.refusal.proofs.short_work.Tie as tie
+use Rattle.refusal_tests.specs.Tests.{factor-fits, short-factor, short-rest}
+use Rattle.refusal_tests.proofs.short_work.Statement.{statement}
+use Rattle.refusal_tests.proofs.short_work.Tie as tie
 
 div-if1 : tie.Need-div-if1
 div-if1 c = search needs

@@ -1,10 +1,10 @@
--- `refusal::field_number` meets its contract. Assumes nothing.
+-- `refusal_tests::field_number` meets its contract. Assumes nothing.
 use borrow.Author.Needs.{needs}
 use mathlib.Core.Path.{refl}
 use Rattle.definition.specs.Refusal.{test}
-use Rattle.refusal.specs.Tests.{absent, numberAfter, followed, told}
-use Rattle.refusal.proofs.field_number.Statement.{statement}
-use Rattle.refusal.proofs.field_number.Tie as tie
+use Rattle.refusal_tests.specs.Tests.{absent, numberAfter, followed, told}
+use Rattle.refusal_tests.proofs.field_number.Statement.{statement}
+use Rattle.refusal_tests.proofs.field_number.Tie as tie
 
 bad-modulus-requires : tie.Need-bad-modulus-requires
 bad-modulus-requires c κs = search needs

@@ -1,8 +1,8 @@
--- `refusal::bad_route` meets its contract. Assumes nothing.
+-- `refusal_tests::bad_route` meets its contract. Assumes nothing.
 use borrow.Author.Tests.{eq-eqb, ne-eqb}
 use Rattle.definition.specs.Refusal.{badRoute}
-use Rattle.refusal.proofs.bad_route.Statement.{statement}
-use Rattle.refusal.proofs.bad_route.Tie as tie
+use Rattle.refusal_tests.proofs.bad_route.Statement.{statement}
+use Rattle.refusal_tests.proofs.bad_route.Tie as tie
 
 returns : tie.Need-returns
 unfolding badRoute
