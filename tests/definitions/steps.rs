@@ -19,7 +19,7 @@ pub fn all(random: &mut Random) -> Vec<String> {
     equations
 }
 
-/// Horner's step, the cut product, the power and the join.
+/// The cut product, the sums with a constant and with a list, the power and the join.
 fn one_variable(random: &mut Random) -> Vec<String> {
     let (p, n, e) = (untested(random), random.count(1, 4), random.count(0, 3));
     let [s, t, u] = [0; 3].map(|_| random.list(p, n));
@@ -27,11 +27,12 @@ fn one_variable(random: &mut Random) -> Vec<String> {
     let product = products::product(p, &t, &u, n).0;
     let power =
         (0..e).fold(products::places(&[1], n), |power, _| products::product(p, &power, &t, n).0);
-    let step = products::sum(p, &product, &products::places(&[c], n));
+    let with_constant = products::sum(p, &t, &products::places(&[c], n));
     let (ss, ts, us) = (list(&s), list(&t), list(&u));
     vec![
         format!("cutProduct {p} {n} {ts} {us} ≡ {}", list(&product)),
-        format!("hornerStep {p} {n} {c} {ts} {us} ≡ {}", list(&step)),
+        format!("cutSum {p} {n} {ts} {} ≡ {}", list(&[c]), list(&with_constant)),
+        format!("cutSum {p} {n} {ts} {us} ≡ {}", list(&products::sum(p, &t, &u))),
         format!("joined {p} {n} {ss} {ts} {us} ≡ {}", list(&products::sum(p, &s, &product))),
         format!("cutPower {p} {n} {ts} {e} ≡ {}", list(&power)),
     ]

@@ -17,12 +17,13 @@
 --   small-listed reduced-listed   tables of numbers below p, and of remainders
 --   product-series constant-series identity-series power-series substituted-series
 --                          the sequences of the definitions are those of the algebra, over the natural numbers
---   composed-listed cutProduct-listed hornerStep-listed cutPower-listed joined-listed spreadList-listed identity-listed
+--   series-single          the series of a list of one place is a constant
+--   composed-listed cutProduct-listed cutSum-listed cutPower-listed joined-listed spreadList-listed identity-listed
 --                          each list of the definitions, read off a series
 use Prim.Native.Nat.{ℕ, zero, suc, _+_, _/_, _%_, _<_}
 use lib.Dec.{eqb}
 use mathlib.Core.Bool.{Bool, true, false, cond}
-use mathlib.Core.List.{List}
+use mathlib.Core.List.{List, [], _∷_}
 use mathlib.Core.Path.{_≡_, refl, sym, ap, fun-ext, _∙_}
 use lib.ListN.{length}
 use native.Mathlib.Decide.{Fin·val-path}
@@ -81,8 +82,8 @@ use Rattle.definition.specs.Substitution.{
   composed,
   cutProductAt,
   cutProduct,
-  hornerStepAt,
-  hornerStep,
+  cutSumAt,
+  cutSum,
 }
 
 -- over the natural numbers
@@ -190,6 +191,14 @@ module _ {p : ℕ} (l : 0 < p) where
   reduced-power : (g : List ℕ) (e : ℕ) → reduced (power (coefficient g) e) ≡ Power.power residue-series (series-of g) e
   reduced-power g e = rw (power-series (coefficient g) e) (map-power (coefficientwise (reduction l)) (coefficient g) e)
 
+  pub series-single : (c : ℕ) → series-of (c ∷ []) ≡ scalars .map c
+  unfolding coefficient Plain.constant
+  series-single c = rw (fun-ext at, constant-series c) (coefficients-constant (reduction l) c)
+    where
+      at : (k : ℕ) → coefficient (c ∷ []) k ≡ Plain.constant c k
+      at zero = refl
+      at (suc k) = refl
+
   pub composed-listed : (n : ℕ) (f g : List ℕ) → composed p n f g ≡ listed n (value f (series-of g))
   unfolding composed composedAt
   composed-listed n f g = reduced-listed n (substituted f g) ∙ ap (listed n) (reduced-value f g)
@@ -203,17 +212,10 @@ module _ {p : ℕ} (l : 0 < p) where
   unfolding cutPower cutPowerAt
   cutPower-listed n g e = reduced-listed n (power (coefficient g) e) ∙ ap (listed n) (reduced-power g e)
 
-  pub hornerStep-listed : (n c : ℕ) (s g : List ℕ) → hornerStep p n c s g ≡ listed n (scalars .map c ⊞ series-of s ⊠ series-of g)
-  unfolding hornerStep hornerStepAt
-  hornerStep-listed n c s g =
-      reduced-listed n (λ k. Plain.constant c k + product (coefficient s) (coefficient g) k)
-      ∙ ap (listed n)
-      (rw (
-        reduced-⊞ (Plain.constant c) (product (coefficient s) (coefficient g)),
-        reduced-⊠,
-        constant-series c,
-        coefficients-constant (reduction l),
-      ))
+  pub cutSum-listed : (n : ℕ) (a b : List ℕ) → cutSum p n a b ≡ listed n (series-of a ⊞ series-of b)
+  unfolding cutSum cutSumAt
+  cutSum-listed n a b =
+      reduced-listed n (λ k. coefficient a k + coefficient b k) ∙ ap (listed n) (reduced-⊞ (coefficient a) (coefficient b))
 
   pub joined-listed : (n : ℕ) (s t u : List ℕ) → joined p n s t u ≡ listed n (series-of s ⊞ series-of t ⊠ series-of u)
   unfolding joined joinedAt

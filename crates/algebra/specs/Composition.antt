@@ -27,7 +27,9 @@ use Rattle.algebra.specs.Bridge.{
   agree-listed,
   series-listed,
   composed-listed,
-  hornerStep-listed,
+  cutProduct-listed,
+  cutSum-listed,
+  series-single,
   joined-listed,
   cutPower-listed,
 }
@@ -36,7 +38,7 @@ use Rattle.algebra.specs.Homomorphism.{coefficients-at}
 use Rattle.algebra.specs.Power.{power}
 use Rattle.algebra.specs.Prime.{prime-positive}
 use Rattle.algebra.specs.Residue.{Residue, residue, residues, residues-negation, reduction, residue-0, residue-equal, residue-zero}
-use Rattle.algebra.specs.Semiring.{⊗-comm}
+use Rattle.algebra.specs.Semiring.{⊕-comm, ⊗-comm}
 use Rattle.algebra.specs.Series.{Series, tail, shift, shift-0, shift-suc, decompose, indeterminate-⊠}
 use Rattle.algebra.specs.Substitution.{evaluate-assoc, substitute-agree, substitute-coefficients}
 use Rattle.algebra.specs.Vanishing.{taylor-agreement}
@@ -46,7 +48,7 @@ use Rattle.algebra.specs.Fermat.{residues-domain}
 use Rattle.definition.specs.Lists.{sum, tabulate, coefficient, ceilDiv}
 use Rattle.definition.specs.Prime.{Prime}
 use Rattle.definition.specs.Ranged.{cutPower, joined}
-use Rattle.definition.specs.Substitution.{constant, composed, composedAt, hornerStep, substituted, substitutedTerm}
+use Rattle.definition.specs.Substitution.{constant, composed, composedAt, cutProduct, cutSum, substituted, substitutedTerm}
 use Rattle.definition.specs.Substitution as Plain
 use Rattle.definition.specs.Taylor.{shifted, valuation, leadingAt, leading}
 
@@ -70,12 +72,23 @@ module _ {p : ℕ} (l : 0 < p) where
   pub series-composed : (n : ℕ) (f g : List ℕ) → Agree n (series-of l (composed p n f g)) (value l f (series-of l g))
   series-composed n f g = rw (composed-listed l n f g) (series-listed l n (value l f (series-of l g)))
 
-  pub composed-∷ : (n c : ℕ) (f g : List ℕ) → hornerStep p n c (composed p n f g) g ≡ composed p n (c ∷ f) g
+  pub composed-∷ : (n c : ℕ) (f g : List ℕ) → cutSum p n (cutProduct p n (composed p n f g) g) (c ∷ []) ≡ composed p n (c ∷ f) g
   composed-∷ n c f g =
-      rw (hornerStep-listed l, composed-listed l n (c ∷ f) g, evaluate-∷ (scalars l), ⊗-comm (residue-series l) (series-of l g))
+      rw (
+        cutSum-listed l,
+        cutProduct-listed l,
+        series-single l,
+        composed-listed l n (c ∷ f) g,
+        evaluate-∷ (scalars l),
+        ⊕-comm (residue-series l) (scalars l .map c),
+        ⊗-comm (residue-series l) (series-of l g),
+      )
       (listed-agree
-      (agree-⊞ (residues l) (agree-refl (scalars l .map c))
-      (agree-⊠ (residues l) (series-composed n f g) (agree-refl (series-of l g)))))
+      (agree-⊞ (residues l)
+      (agree-trans
+      (series-listed l n _)
+      (agree-⊠ (residues l) (series-composed n f g) (agree-refl (series-of l g))))
+      (agree-refl (scalars l .map c))))
 
   pub composed-++ : (n : ℕ) (f h g : List ℕ)
       → joined p n (composed p n f g) (composed p n h g) (cutPower p n g (length f)) ≡ composed p n (f ++ h) g

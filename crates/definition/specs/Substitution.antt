@@ -6,7 +6,7 @@
 --   substituted f g k   coefficient k of f(g): the sum of f's coefficient i times coefficient k of g^i
 --   composed p n f g    f(g) modulo x^n and p, a list of n places
 --   cutProduct p n a b  the product of two lists modulo p, cut to n places
---   hornerStep p n c s g   one step of route 1: c + s × g, cut to n places
+--   cutSum p n a b      the sum of two lists modulo p, cut to n places
 use Prim.Native.Nat.{ℕ, zero, suc, _+_, _-_, _*_, _%_}
 use mathlib.Core.List.{List}
 use lib.ListN.{length}
@@ -45,8 +45,8 @@ cutProductAt p a b k = product (coefficient a) (coefficient b) k % p
 unfoldable pub cutProduct : ℕ → ℕ → List ℕ → List ℕ → List ℕ
 cutProduct p n a b = tabulate n (cutProductAt p a b)
 
-unfoldable pub hornerStepAt : ℕ → ℕ → List ℕ → List ℕ → ℕ → ℕ
-hornerStepAt p c s g k = (constant c k + product (coefficient s) (coefficient g) k) % p
+unfoldable pub cutSumAt : ℕ → List ℕ → List ℕ → ℕ → ℕ
+cutSumAt p a b k = (coefficient a k + coefficient b k) % p
 
-unfoldable pub hornerStep : ℕ → ℕ → ℕ → List ℕ → List ℕ → List ℕ
-hornerStep p n c s g = tabulate n (hornerStepAt p c s g)
+unfoldable pub cutSum : ℕ → ℕ → List ℕ → List ℕ → List ℕ
+cutSum p n a b = tabulate n (cutSumAt p a b)

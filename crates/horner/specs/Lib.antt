@@ -1,6 +1,6 @@
 -- The contracts of Horner's rule and the laws behind them.
 --
---   Step   one step: multiply by g, add the next coefficient
---   Part   all steps, on places of the work buffer
-pub mod Step
+--   Steps  the two steps of a turn, (a) multiply by g and (b) add the next coefficient
+--   Part   all turns, on places of the work buffer
+pub mod Steps
 pub mod Part

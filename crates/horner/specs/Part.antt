@@ -1,11 +1,15 @@
--- Horner's rule on places of the work buffer.
+-- Horner's rule on places of the work buffer: document 004, Algorithm 1, cut to n places. The coefficients of f are taken from the top one down, each of the
+-- lower ones in a turn, by step (a) and step (b). While i are left, those from place i on are taken.
 --
 --   PartOperands p n f b t w   what `horner_part` requires: G at the n places from b on, and 2 n places from t on apart from them
---   operands-step              the places of one step
 --   Part                       the contract of `horner_part`
---   Running                    before each turn: the coefficients from place i on are done
---   running-next               one coefficient more
+--   Running                    before each turn: the coefficients from place i on are taken
+--   operands-next              the places of a turn
+--   after-a                    after step (a) the running value is g times the composition of the coefficients taken so far
+--   after-b                    after step (b) it is the composition of these with the next one put before them
+--   running-next               one coefficient more is taken
 --   running-small              the weight of one product more fits a word
+--   top-put                    the top coefficient is put
 --   operands-put               the operands once the top coefficient is put
 --   running-first              the top coefficient
 --   running-last               all coefficients
@@ -13,18 +17,18 @@
 use Prim.Native.Nat.{ℕ, suc, _+_, _-_, _*_, _%_, _<_, _≤_}
 use native.Mathlib.Nat.{add-zero, le-refl, mul-le-mul, suc-mul, zero-add}
 use native.Mathlib.Omega.{arith}
-use mathlib.Core.Logic.{inl}
 use mathlib.Core.Path.{_≡_, ap, _∙_}
-use mathlib.Core.List.{List}
-use lib.ListN.{length, getD, take, drop, length-drop}
+use mathlib.Core.List.{List, [], _∷_}
+use lib.ListN.{length, getD, drop, length-drop}
 use lib.Seq.{sets, drop-cons, getD-drop}
+use Rattle.algebra.specs.Bridge.{length-cutProduct}
 use Rattle.algebra.specs.Composition.{composed-∷, composed-constant}
 use Rattle.algebra.specs.Lists.{length-tabulate}
 use Rattle.definition.specs.Lists.{coefficient, tabulate}
 use Rattle.definition.specs.Refusal.{limit}
-use Rattle.definition.specs.Substitution.{composed, constant, hornerStep}
+use Rattle.definition.specs.Substitution.{composed, constant, cutProduct}
 use Rattle.definition.specs.Weight.{hornerWeight}
-use Rattle.horner.specs.Step.{Stepped, length-step}
+use Rattle.horner.specs.Steps.{Taken, constant-added, running-apart, running-inside, running-last-place, runningPlace}
 use Rattle.buffer.specs.Segments.{segment, Apart, apart-length, apart-within}
 use Rattle.product.specs.Single.{Operands}
 use Rattle.route.specs.Table.{written-table}
@@ -44,71 +48,90 @@ pub record Part (p n : ℕ) (f : List ℕ) (b t : ℕ) (before after : List ℕ)
 
 pub record Running (p n : ℕ) (f : List ℕ) (b t : ℕ) (before now : List ℕ) (i weight : ℕ) : Type 0 where
   pub within : Within t (2 * n) before now
-  pub value : segment now t n ≡ composed p n (drop i f) (segment before b n)
+  pub value : segment now (runningPlace n t i) n ≡ composed p n (drop i f) (segment before b n)
   pub rest : i ≤ length f - 1
   pub sum : weight + i * n ≡ hornerWeight n (length f)
 
 module _ {p n : ℕ} {f : List ℕ} {b t : ℕ} {w : List ℕ} (o : PartOperands p n f b t w) where
-  pub operands-step : {v : List ℕ} → length v ≡ length w → Operands p n t b (t + n) v
-  operands-step {v} e = record {
-    modulus = o .modulus;
-    order = omega (arith, o .order);
-    left = record { source = omega (arith, o .inner .target); target = omega (arith, o .inner .target); apart = inl (le-refl (t + n)) };
-    right = apart-length e (apart-within (o .inner) (le-refl b) (le-refl (b + n)) (omega arith) (omega arith));
-  }
-
-  pub running-next : {i weight result : ℕ} {u v : List ℕ} (x : List ℕ) → Running p n f b t w u (suc i) weight
-      → Stepped p n (getD f i 0) t b (t + n) u x result
-      → v ≡ sets x t (take n (drop (t + n) x)) → Running p n f b t w v i (weight + result)
-  running-next {i} {weight} {result} {u} {v} x r s e = record {
-    within = within-trans (r .within) (within-trans multiplied moved);
-    value = rw e moved-value ∙ stepped ∙ rw (r .value, kept, drop-cons f i 0 below) (composed-∷ (o .modulus) n (getD f i 0) (drop (suc i) f) (segment w b n));
-    rest = omega (arith, r .rest);
-    sum = omega (arith, r .sum, s .places, suc-mul i n);
-  }
-    where
-      next : List ℕ
-      next = hornerStep p n (getD f i 0) (segment u t n) (segment u b n)
-
-      size : length next ≡ n
-      size = length-step p n (getD f i 0) (segment u t n) (segment u b n)
-
-      below : i < length f
-      below = omega (arith, r .rest)
-
-      fits : t + n + n ≤ length u
-      fits = omega (arith, o .inner .target, r .within .size)
-
-      multiplied : Within t (2 * n) u x
-      multiplied = rw (s .written) (within-sets u (t + n) next (omega arith) (rw size (omega arith)))
-
-      stepped : segment x (t + n) n ≡ next
-      stepped = rw (s .written) (segment-sets u (t + n) next n size fits)
-
-      last : length (segment x (t + n) n) ≡ n
-      last = rw (stepped, size)
-
-      moved : Within t (2 * n) x v
-      moved = rw e (within-sets x t (segment x (t + n) n) (le-refl t) (rw last (omega arith)))
-
-      moved-value : segment (sets x t (segment x (t + n) n)) t n ≡ segment x (t + n) n
-      moved-value = segment-sets x t (segment x (t + n) n) n last (omega (arith, fits, multiplied .size))
-
-      kept : segment u b n ≡ segment w b n
-      kept = segment-within (r .within) b n (o .inner .apart)
-
   pub running-small : {i weight : ℕ} {u : List ℕ} → Running p n f b t w u (suc i) weight → weight + n ≤ limit * limit
   unfolding hornerWeight
   running-small {i} r =
       omega (arith, r .sum, suc-mul i n, mul-le-mul {n₁ = length f - 1} {n₂ = limit} {m₂ = limit} (omega (arith, o .outer)) (o .order))
 
--- the first turn begins with the top coefficient at t; w is the buffer before it is put there, v after
-module _ {p n : ℕ} {f : List ℕ} {b t : ℕ} {w : List ℕ} (o : PartOperands p n f b t w)
-    {v : List ℕ} (put : v ≡ sets w t (tabulate n (constant (coefficient f (length f - 1) % p)))) where
+  -- a turn: the next coefficient stands at place i of f, and the running value goes from one place to the other
+  module _ (i : ℕ) {from to : ℕ} (leaves : from ≡ runningPlace n t (suc i)) (comes : to ≡ runningPlace n t i) where
+    inside : (t ≤ to) × (to + n ≤ t + 2 * n)
+    inside = rw comes (running-inside n t i)
+
+    pub operands-next : {v : List ℕ} → length v ≡ length w → Operands p n from b to v
+    operands-next e = record {
+      modulus = o .modulus;
+      order = omega (arith, o .order);
+      left = record {
+        source = omega (arith, leaves, running-inside n t (suc i) .1, o .inner .target);
+        target = omega (arith, inside .1, o .inner .target);
+        apart = rw (leaves, comes) (running-apart n t i);
+      };
+      right = apart-length e (apart-within (o .inner) (le-refl b) (le-refl (b + n)) (inside .0) (inside .1));
+    }
+
+    -- u is the buffer before the turn, v after it
+    module _ {weight result : ℕ} {u v : List ℕ} (r : Running p n f b t w u (suc i) weight) (step : Taken p n (getD f i 0) from b to u v result) where
+      abbrev inner : List ℕ
+      inner = segment w b n
+
+      abbrev taken : List ℕ
+      taken = drop (suc i) f
+
+      abbrev next : ℕ
+      next = getD f i 0
+
+      pub after-a : segment (step .between) to n ≡ cutProduct p n (composed p n taken inner) inner
+      after-a =
+          rw (step .multiplied .written)
+          (segment-sets u to (cutProduct p n (segment u from n) (segment u b n)) n (length-cutProduct p n (segment u from n) (segment u b n))
+          (omega (arith, inside .1, o .inner .target, r .within .size))
+          ∙ rw (leaves, r .value, segment-within (r .within) b n (o .inner .apart)))
+
+      pub after-b : segment v to n ≡ composed p n (next ∷ taken) inner
+      after-b =
+          rw (step .added)
+          (constant-added p n next (composed p n taken inner) inner (o .positive) (step .between) to after-a
+          ∙ composed-∷ (o .modulus) n next taken inner)
+
+      pub running-next : Running p n f b t w v i (weight + result)
+      running-next = record {
+        within = within-trans (r .within) (within-trans product-within sum-within);
+        value = rw (← comes, drop-cons f i 0 (omega (arith, r .rest))) after-b;
+        rest = omega (arith, r .rest);
+        sum = omega (arith, r .sum, step .multiplied .places, suc-mul i n);
+      }
+        where
+          product-within : Within t (2 * n) u (step .between)
+          product-within =
+              rw (step .multiplied .written)
+              (within-sets u to (cutProduct p n (segment u from n) (segment u b n)) (inside .0) (rw length-cutProduct (inside .1)))
+
+          sum-within : Within t (2 * n) (step .between) v
+          sum-within =
+              rw (step .added)
+              (within-sets (step .between) to (((coefficient (step .between) to + next) % p) ∷ []) (inside .0)
+              (omega (arith, o .positive, inside .1)))
+
+-- the top coefficient, as the code finds it and its place
+pub top-put : (p n t : ℕ) (f w : List ℕ) {i c r : ℕ} {v : List ℕ} → i ≡ length f - 1 → c ≡ coefficient f i → r ≡ runningPlace n t i
+    → v ≡ sets w r (tabulate n (constant (c % p)))
+    → v ≡ sets w (runningPlace n t (length f - 1)) (tabulate n (constant (coefficient f (length f - 1) % p)))
+top-put p n t f w last value place put = put ∙ rw (place, value, last)
+
+-- the first turn begins with the top coefficient; w is the buffer before it is put, v after
+module _ {p n : ℕ} {f : List ℕ} {b t : ℕ} {w : List ℕ} (o : PartOperands p n f b t w) {v : List ℕ}
+    (put : v ≡ sets w (runningPlace n t (length f - 1)) (tabulate n (constant (coefficient f (length f - 1) % p)))) where
   top-within : Within t (2 * n) w v
   top-within =
       rw put
-      (within-sets w t (tabulate n (constant (coefficient f (length f - 1) % p))) (le-refl t) (rw length-tabulate (omega arith)))
+      (within-sets w (runningPlace n t (length f - 1)) (tabulate n (constant (coefficient f (length f - 1) % p))) (running-inside n t (length f - 1) .0)
+      (rw length-tabulate (running-inside n t (length f - 1) .1)))
 
   pub operands-put : PartOperands p n f b t v
   operands-put = record {
@@ -131,15 +154,18 @@ module _ {p n : ℕ} {f : List ℕ} {b t : ℕ} {w : List ℕ} (o : PartOperands
     sum = zero-add ((length f - 1) * n);
   }
     where
-      top : segment v t n ≡ tabulate n (constant (coefficient f (length f - 1) % p))
-      top = rw put (written-table w t (constant (coefficient f (length f - 1) % p)) n (omega (arith, o .inner .target)))
+      top : segment v (runningPlace n t (length f - 1)) n ≡ tabulate n (constant (coefficient f (length f - 1) % p))
+      top =
+          rw put
+          (written-table w (runningPlace n t (length f - 1)) (constant (coefficient f (length f - 1) % p)) n
+          (omega (arith, running-inside n t (length f - 1) .1, o .inner .target)))
 
       first : coefficient (drop (length f - 1) f) 0 ≡ coefficient f (length f - 1)
       first = rw add-zero at (getD-drop (length f - 1) f 0 0)
 
   pub running-last : {weight : ℕ} {u : List ℕ} → Running p n f b t v u 0 weight → Part p n f b t w u weight
-  running-last r = record {
+  running-last {weight} {u} r = record {
     within = within-trans top-within (r .within);
-    value = r .value ∙ ap (composed p n f) (segment-within top-within b n (o .inner .apart));
+    value = rw running-last-place at (r .value) ∙ ap (composed p n f) (segment-within top-within b n (o .inner .apart));
     sum = omega (arith, r .sum);
   }

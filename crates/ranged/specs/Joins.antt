@@ -8,7 +8,7 @@
 --   lower-operands                     one level down, from the same block on
 --   span-passed                        a span that has no neighbour passes on
 --   odd-operands                       one level down, from the block after the even span on
---   join-operands                      what the product that joins them requires
+--   join-operands                      what their join requires
 --   span-joined                        even + odd × G is the span one level up
 --   predecessor                        a level above 0 is one above another
 --   next-small                         the block after a span, and its place, fit a word
@@ -30,9 +30,10 @@ use Rattle.definition.specs.Substitution.{composed}
 use Rattle.definition.specs.Weight.{hornerWeight}
 use Rattle.horner.specs.Part.{Part, PartOperands}
 use Rattle.buffer.specs.Segments.{segment}
-use Rattle.product.specs.Single.{MultipliedAdd, Operands, addedProduct, length-joined}
-use Rattle.route.specs.Within.{Within, segment-sets, segment-within, within-sets, within-trans, within-wider}
+use Rattle.product.specs.Single.{Operands}
+use Rattle.route.specs.Within.{Within, segment-within, within-trans, within-wider}
 use Rattle.powers.specs.Kept.{Holds, holds-within, next-place}
+use Rattle.ranged.specs.Neighbours.{Joined}
 use Rattle.ranged.specs.Spans.{length-block, length-span, span, span-alone, span-block, span-composed, span-weight}
 
 pub record SpanOperands (p n b level j t : ℕ) (f w : List ℕ) : Type 0 where
@@ -104,6 +105,10 @@ module _ {p n b level below j t : ℕ} {f u : List ℕ} (e : level ≡ suc below
   wider : (level + 2) * n ≡ (below + 2) * n + n
   wider = rw (← suc-mul) (ap (λ k. k * n) (omega arith))
 
+  -- there is room for three parts: two neighbours and their product
+  three : 3 * n ≤ (level + 2) * n
+  three = mul-le-mul-right n (omega arith)
+
   lower : (below + 1) * n ≡ level * n
   lower = ap (λ k. k * n) (omega arith)
 
@@ -153,35 +158,34 @@ module _ {p n b level below j t : ℕ} {f u : List ℕ} (e : level ≡ suc below
       size : length w ≡ length u
       size = odd .within .size ∙ even .within .size
 
-      pub join-operands : Operands p n (t + n) (level * n) t w
+      pub join-operands : Operands p n (t + n) (level * n) (t + 2 * n) w
       join-operands = record {
         modulus = pre .modulus;
         order = omega (arith, pre .order);
         left = record {
-          source = omega (arith, wider, pre .room, size);
-          target = omega (arith, wider, pre .room, size);
-          apart = inr (le-refl (t + n));
+          source = omega (arith, three, pre .room, size);
+          target = omega (arith, three, pre .room, size);
+          apart = inl (omega arith);
         };
         right = record {
           source = omega (arith, next-place n level, pre .apart, pre .room, size);
-          target = omega (arith, wider, pre .room, size);
+          target = omega (arith, three, pre .room, size);
           apart = inl (omega (arith, next-place n level, pre .apart));
         };
       }
 
-      pub span-joined : {x : List ℕ} {q : ℕ} → MultipliedAdd p n (t + n) (level * n) t w x q → SpanPart p n b level j t f u x (r + s + q)
-      span-joined {x} {q} added = record {
+      pub span-joined : {x : List ℕ} {q : ℕ} → Joined p n (level * n) t w x q → SpanPart p n b level j t f u x (r + s + q)
+      span-joined {x} {q} join = record {
         within =
             within-trans
             (within-wider (le-refl t) (omega (arith, wider)) (even .within))
             (within-trans
             (within-wider (omega arith) (omega (arith, wider)) (odd .within))
-            (rw (added .written) (within-sets w t (addedProduct p n (t + n) (level * n) t w) (le-refl t) (rw length-joined (omega (arith, wider))))));
+            (within-wider (le-refl t) (omega (arith, three)) (join .within)));
         value =
-            rw (added .written)
-            (segment-sets w t (addedProduct p n (t + n) (level * n) t w) n (length-joined p n _ _ _) (join-operands .left .target)
-            ∙ rw (even-value, odd-value, power-value, e) (span-composed b f below j next (pre .modulus) n (segment u 0 n)));
-        sum = rw (even .sum, odd .sum, added .places, e) (span-weight b f below j next (pre .some) n);
+            join .value
+            ∙ rw (even-value, odd-value, power-value, e) (span-composed b f below j next (pre .modulus) n (segment u 0 n));
+        sum = rw (even .sum, odd .sum, join .places, e) (span-weight b f below j next (pre .some) n);
       }
         where
           even-value : segment w t n ≡ composed p n (span b below j f) (segment u 0 n)

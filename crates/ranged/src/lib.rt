@@ -10,7 +10,9 @@ ghost use Rattle.definition.specs.Refusal.{limit};
 ghost use Rattle.definition.specs.Weight.{halvings, rangedWeight};
 ghost use Rattle.horner.specs.Part.{Part};
 ghost use Rattle.route.specs.Contract.{Lent, Route};
+ghost use Rattle.product.specs.Single.{Operands};
 ghost use Rattle.ranged.specs.Joins.{SpanOperands, SpanPart};
+ghost use Rattle.ranged.specs.Neighbours.{Joined};
 
 // The number of places of a block.
 const BLOCK_LENGTH: usize = 4;
@@ -49,6 +51,19 @@ fn compose_block(p: u32, n: usize, b: usize, f: &[u32], j: usize, w: &mut [u32],
     horner::horner_part(p, n, &f[start..end], w, 0, t)
 }
 
+// even + odd × G: the n places from t on become they + S G modulo p, cut to n places, where S are the n places beside them and G those from `power` on.
+// The product goes to the n places after S, and is added then.
+fn join(p: u32, n: usize, w: &mut [u32], power: usize, t: usize) -> Weight
+    requires { ⌜ Operands p n (t + n) power (t + 2 * n) (now w) ⌝ }
+    ensures { λ r. ⌜ Joined p n power t (now (w .entry)) (now (w .exit)) (r .places) ⌝ }
+{
+    let beside = t + n;
+    let free = t + 2 * n;
+    let places = product::multiply(p, n, w, beside, power, free);
+    route::add_part(p, n, w, free, t);
+    places
+}
+
 // The n places from t on become the part of f from block j on, at most 2^level blocks long, at G modulo p and x^n, where G are the first n
 // places and their powers follow them. The even half at t joins with the odd half beside it; without partner it passes on.
 fn compose_span(
@@ -76,7 +91,7 @@ fn compose_span(
     let beside = t + n;
     let odd = compose_span(p, n, b, f, below, next, w, beside);
     let power = level * n;
-    let joined = product::multiply_add(p, n, w, beside, power, t);
+    let joined = join(p, n, w, power, t);
     even.plus(odd).plus(joined)
 }
 

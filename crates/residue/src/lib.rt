@@ -42,3 +42,13 @@ pub fn sum(p: u32, a: u32, b: u32) -> u32
 {
     difference(p, a, p - b)
 }
+
+// a + b modulo p, of any numbers a and b.
+pub fn reduced_sum(p: u32, a: u32, b: u32) -> u32
+    requires { ⌜ 0 < p ⌝ }
+    ensures { λ r. ⌜ r ≡ (a + b) % p ⌝ }
+{
+    let c = reduced(p, a);
+    let d = reduced(p, b);
+    sum(p, c, d)
+}

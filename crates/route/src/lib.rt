@@ -1,11 +1,12 @@
-// What the four routes share: lists put into the work buffer, the answer taken out of it, and the contract of a route (specs).
+// What the four routes share: lists put into the work buffer and added there, the answer taken out of it, and the contract of a route (specs).
 ghost use mathlib.Core.Path.{_≡_};
 ghost use Prim.Native.Nat.{_+_, _<_, _≤_};
 ghost use lib.ListN.{length};
 ghost use lib.Seq.{sets};
+ghost use Rattle.buffer.specs.Segments.{segment};
 ghost use Rattle.definition.specs.Lists.{coefficient, tabulate};
 ghost use Rattle.definition.specs.Refusal.{composeWork, limit};
-ghost use Rattle.definition.specs.Substitution.{constant};
+ghost use Rattle.definition.specs.Substitution.{constant, cutSum};
 ghost use Rattle.route.specs.Contract.{Finished};
 
 // The largest order, and the longest list that a call takes.
@@ -42,6 +43,18 @@ pub fn put_constant(c: u32, n: usize, w: &mut [u32], t: usize)
 {
     buffer::clear_part(w, t, n);
     w[t] = c;
+}
+
+// The n places from t on become they + those from s on, modulo p; s is not below t.
+pub fn add_part(p: u32, n: usize, w: &mut [u32], s: usize, t: usize)
+    requires { ⌜ (0 < p) × (t ≤ s) × (s + n ≤ length (now w)) ⌝ }
+    ensures { λ _. ⌜ now (w .exit) ≡ sets (now (w .entry)) t (cutSum p n (segment (now (w .entry)) t n) (segment (now (w .entry)) s n)) ⌝ }
+{
+    let mut k = 0;
+    while k < n {
+        w[t + k] = residue::reduced_sum(p, w[t + k], w[s + k]);
+        k += 1;
+    }
 }
 
 // Writes the first places of w into `out`, and clears the first k places of w.

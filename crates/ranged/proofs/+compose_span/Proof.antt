@@ -10,8 +10,8 @@ use Rattle.ranged.proofs.compose_span.Reads as reads
 use Rattle.ranged.proofs.compose_span.Kinds as kinds
 use Rattle.ranged.proofs.+compose_span.Lts-compose_span as lts
 use Rattle.product.proofs.Weight.plus.Reads as plus-reads
-use Rattle.product.proofs.multiply_add.Reads as multiply-add-reads
 use Rattle.ranged.proofs.compose_block.Reads as compose-block-reads
+use Rattle.ranged.proofs.join.Reads as join-reads
 use Rattle.ranged.proofs.power_of_two.Reads as power-of-two-reads
 use Rattle.ranged.proofs.+compose_span.{statement}
 use Rattle.ranged.proofs.+compose_span.Tie.{close}
@@ -42,8 +42,8 @@ claims t = (
   reads.Post,
   power-of-two-reads.Asked,
   power-of-two-reads.Learnt,
-  multiply-add-reads.Asked,
-  multiply-add-reads.Learnt,
+  join-reads.Asked,
+  join-reads.Learnt,
   plus-reads.Asked,
   plus-reads.Learnt,
 )
@@ -111,8 +111,8 @@ mul-power t c =
     let begin = c .before .before .before .before .before .before .before .before .before .before .before .before .before in
     record { fits = omega (arith, mul-le-mul (begin .pre .1 .levels) (begin .pre .1 .order)) }
 
-multiply-add-requires : (t : ℕ) → lts.Need-multiply-add-requires (claims t) (operands-at t) reads.Post
-multiply-add-requires t c κs =
+join-requires : (t : ℕ) → lts.Need-join-requires (claims t) (operands-at t) reads.Post
+join-requires t c κs =
     let odd = c .before .before .before in
     let even = odd .before .before .before .before .before .before in
     let begin = even .before .before .before .before .before in
@@ -136,7 +136,7 @@ plus-requires-2 t c κs =
     omega (
       arith,
       join-small (pre .order) (pre .outer) (even .compose-span .ensures) (odd .compose-span2 .ensures),
-      added .multiply-add .ensures .places,
+      added .join .ensures .places,
       c .plus .ensures,
     )
 
@@ -152,7 +152,7 @@ returns-3 t c =
     let next = odd .before .before .before .power-of-two .ensures in
     rw (c .plus2 .ensures, c .before .plus .ensures)
     (span-joined (predecessor (begin .args .level) (even .before .before .if1 .left)) (begin .pre .1)
-    (rw next at (odd .before .before .if2 .left)) (even .compose-span .ensures) (rw next at (odd .compose-span2 .ensures)) (added .multiply-add .ensures))
+    (rw next at (odd .before .before .if2 .left)) (even .compose-span .ensures) (rw next at (odd .compose-span2 .ensures)) (added .join .ensures))
 
 pub +compose-span-spec : {M : Type 1} → statement M
 +compose-span-spec = close μ λ t. lts.spec (claims t)
@@ -171,7 +171,7 @@ pub +compose-span-spec : {M : Type 1} → statement M
     (add-beside t)
     (compose-span-requires-2 t)
     (mul-power t)
-    (multiply-add-requires t)
+    (join-requires t)
     (plus-requires t)
     (plus-requires-2 t)
     (same-length-3 t)
