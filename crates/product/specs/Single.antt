@@ -4,16 +4,16 @@
 --   Multiplied                the contract of `multiply`
 --   MultipliedAdd             the contract of `multiply_add`
 --   addedProduct p n a b t w  its target after the call (`coefficients/Operands`)
---   added-over                it over a target that was written before
 --   added-zeros               it over zeros is the product
 -- Assumes nothing.
 use Prim.Native.Nat.{ℕ}
 use native.Mathlib.Nat.{le-of-eq, le-refl, zero-add}
 use native.Mathlib.Omega.{arith}
-use mathlib.Core.Path.{_≡_, ap, _∙_}
+use mathlib.Core.Path.{_≡_}
 use mathlib.Core.List.{List}
 use lib.ListN.{length, take, drop, replicate, length-replicate, getD-replicate}
 use lib.Seq.{sets}
+use Rattle.algebra.specs.Bridge.{length-cutProduct}
 use Rattle.algebra.specs.Lists.{tabulate-cong}
 use Rattle.buffer.specs.Segments.{segment, segment-kept}
 use Rattle.buffer.specs.Written.{part-sets, sets-cover}
@@ -35,14 +35,18 @@ unfolding joined joinedAt cutProduct cutProductAt coefficient
 joined-zeros p n u v =
     tabulate-cong n (joinedAt p (replicate n 0) u v) (cutProductAt p u v) (λ k h. rw (getD-replicate {A = ℕ} n k 0 0 h, zero-add))
 
-module _ {p n a b t : ℕ} {w : List ℕ} (o : Operands p n a b t w) where
-  pub added-over : (us : List ℕ) → length us ≡ n
-      → sets (sets w t us) t (addedProduct p n a b t (sets w t us)) ≡ sets w t (joined p n us (segment w a n) (segment w b n))
-  added-over us size =
-      let same : take n (drop t (sets w t us)) ≡ us = rw size at (part-sets w t us (omega (arith, o .left .target))) in
-      rw (same, segment-kept (o .left) us (le-of-eq size), segment-kept (o .right) us (le-of-eq size))
-      (sets-cover w t us (joined p n us (segment w a n) (segment w b n)) (rw (size, length-joined p n us (segment w a n) (segment w b n)) (le-refl n)))
-
-  pub added-zeros : sets (sets w t (replicate n 0)) t (addedProduct p n a b t (sets w t (replicate n 0)))
-      ≡ sets w t (cutProduct p n (segment w a n) (segment w b n))
-  added-zeros = added-over (replicate n 0) (length-replicate n 0) ∙ ap (sets w t) (joined-zeros p n (segment w a n) (segment w b n))
+pub added-zeros : {p n a b t : ℕ} {w : List ℕ} → Operands p n a b t w
+    → sets (sets w t (replicate n 0)) t (addedProduct p n a b t (sets w t (replicate n 0)))
+    ≡ sets w t (cutProduct p n (segment w a n) (segment w b n))
+added-zeros {p} {n} {a} {b} {t} {w} o =
+    let zeros : List ℕ = replicate n 0 in
+    let size : length zeros ≡ n = length-replicate n 0 in
+    let same : take n (drop t (sets w t zeros)) ≡ zeros = rw size at (part-sets w t zeros (omega (arith, o .left .target))) in
+    rw (
+      same,
+      segment-kept (o .left) zeros (le-of-eq size),
+      segment-kept (o .right) zeros (le-of-eq size),
+      joined-zeros p n (segment w a n) (segment w b n),
+    )
+    (sets-cover w t zeros (cutProduct p n (segment w a n) (segment w b n))
+    (rw (size, length-cutProduct p n (segment w a n) (segment w b n)) (le-refl n)))
