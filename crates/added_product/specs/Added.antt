@@ -1,6 +1,5 @@
 -- A product of two parts of a list, added to a third part.
 --
---   addedAt p t w z k      place t + k of w plus place k of z, modulo p
 --   Parts p n a b t w      what each function requires: three parts of n places inside w
 --   Added                  what each ensures
 --   residues-product       the first n places are residues where they are a product
@@ -9,23 +8,20 @@
 --   loaded-product         and the product of two such lists
 -- Assumes nothing.
 use Prim.Native.Nat.{ℕ, _+_, _%_, _<_, _≤_}
-use native.Mathlib.Nat.{add-mod-mod, mod-lt}
+use native.Mathlib.Nat.{mod-lt}
 use mathlib.Core.List.{List}
 use mathlib.Core.Path.{_≡_, sym, ap, _∙_}
-use lib.ListN.{length, getD, take, drop}
-use lib.Seq.{sets, getD-drop, getD-take}
+use lib.ListN.{length, getD, take}
+use lib.Seq.{sets, getD-take}
 use Rattle.algebra.specs.Lists.{coefficient-tabulate, tabulate-cong}
 use Rattle.buffer.specs.Written.{front-sets}
 use Rattle.coefficients.specs.Operands.{addedProduct}
-use Rattle.definition.specs.Lists.{coefficient, tabulate}
-use Rattle.definition.specs.Ranged.{joined, joinedAt}
-use Rattle.definition.specs.Substitution.{cutProduct, cutProductAt, product}
+use Rattle.definition.specs.Lists.{coefficient}
+use Rattle.definition.specs.Ranged.{joined}
+use Rattle.definition.specs.Substitution.{cutProduct, cutProductAt, cutSum, cutSumAt, product}
 use Rattle.parity.specs.Halves.{Residues}
 use Rattle.karatsuba.specs.Rule.{cutProduct-taken}
 use Rattle.schoolbook.specs.ByRows.{length-residueList, product-residues, residue-below, residueList}
-
-unfoldable pub addedAt : ℕ → ℕ → List ℕ → List ℕ → ℕ → ℕ
-addedAt p t w z k = (coefficient w (t + k) + coefficient z k) % p
 
 pub record Parts (p n a b t : ℕ) (w : List ℕ) : Type 0 where
   pub modulus : 0 < p
@@ -47,10 +43,10 @@ module _ {p : ℕ} (l : 0 < p) (n : ℕ) (z u v : List ℕ) (e : take n z ≡ cu
   unfolding coefficient
   residues-product k h = rw (place-product k h) (mod-lt _ l)
 
-  pub added-joined : (t : ℕ) (w : List ℕ) → tabulate n (addedAt p t w z) ≡ joined p n (take n (drop t w)) u v
-  unfolding addedAt joined joinedAt coefficient
-  added-joined t w = tabulate-cong n (addedAt p t w z) (joinedAt p (take n (drop t w)) u v)
-      (λ k h. rw (place-product k h, add-mod-mod, getD-take n (drop t w) k 0 h, getD-drop))
+  pub added-joined : (s : List ℕ) → cutSum p n s z ≡ joined p n s u v
+  unfolding joined cutSum cutSumAt coefficient
+  added-joined s =
+      tabulate-cong n (cutSumAt p s z) (cutSumAt p s (cutProduct p n u v)) (λ k h. rw (← e, getD-take n z k 0 h))
 
 -- factors that were read into the front of other lists
 loaded-front : (p n : ℕ) (x u : List ℕ) {x' : List ℕ} → x' ≡ sets x 0 (residueList p n u) → n ≤ length x → take n x' ≡ residueList p n u

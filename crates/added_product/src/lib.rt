@@ -5,11 +5,12 @@ ghost use mathlib.Core.Path.{_≡_};
 ghost use Prim.Native.Nat.{_+_, _<_, _≤_};
 ghost use lib.ListN.{length};
 ghost use lib.Seq.{sets};
-ghost use Rattle.definition.specs.Lists.{tabulate};
+ghost use Rattle.buffer.specs.Segments.{segment};
+ghost use Rattle.definition.specs.Substitution.{cutSum};
 ghost use Rattle.karatsuba.specs.Room.{Lists};
 ghost use Rattle.parity.specs.Halves.{Residues};
 ghost use Rattle.schoolbook.specs.ByRows.{residueList};
-ghost use Rattle.added_product.specs.Added.{Added, Parts, addedAt};
+ghost use Rattle.added_product.specs.Added.{Added, Parts};
 
 // The first n places of z become those of x modulo p.
 fn load(p: u32, n: usize, x: &[u32], z: &mut [u32])
@@ -26,7 +27,7 @@ fn load(p: u32, n: usize, x: &[u32], z: &mut [u32])
 // Adds the first n places of z, which are residues, to the n places of w from t on.
 fn add_places(p: u32, n: usize, z: &[u32], w: &mut [u32], t: usize)
     requires { ⌜ (0 < p) × (n ≤ length (now z)) × Residues p n (now z) × (t + n ≤ length (now w)) ⌝ }
-    ensures { λ r. ⌜ now (w .exit) ≡ sets (now (w .entry)) t (tabulate n (addedAt p t (now (w .entry)) (now (z .entry)))) ⌝ }
+    ensures { λ r. ⌜ now (w .exit) ≡ sets (now (w .entry)) t (cutSum p n (segment (now (w .entry)) t n) (now (z .entry))) ⌝ }
 {
     let mut k = 0;
     while k < n {

@@ -10,7 +10,7 @@
 --   series-listed          the series of a list that was read off a series agrees with that series below n
 --   listed-series          a list of n numbers below p is read off its own series
 --   length-listed coefficient-listed   length and places of such a list
---   length-cutProduct      a cut product has n places
+--   length-cutProduct length-cutSum   a cut product and a cut sum have n places
 --   residue-series l       the semiring of series over the residues
 --   scalars l              natural numbers as constant series
 --   value l f s            the polynomial f, a list of natural numbers, at a series s
@@ -29,7 +29,7 @@ use lib.ListN.{length}
 use native.Mathlib.Decide.{Fin·val-path}
 use native.Mathlib.Nat.{mod-eq-of-lt}
 use native.Mathlib.Omega.{arith}
-use Rattle.algebra.specs.Agree.{Agree}
+use Rattle.algebra.specs.Agree.{Agree, agree-refl, agree-⊞}
 use Rattle.algebra.specs.Evaluate.{evaluate, evaluate-sum, map-evaluate}
 use Rattle.algebra.specs.Homomorphism.{
   Homomorphism,
@@ -69,7 +69,7 @@ use Rattle.algebra.specs.Sum as Sum
 use Rattle.definition.specs.Bernstein as Bernstein
 use Rattle.definition.specs.Bernstein.{spreadList}
 use Rattle.definition.specs.Lists.{tabulate, coefficient}
-use Rattle.definition.specs.Ranged.{cutPowerAt, cutPower, joinedAt, joined}
+use Rattle.definition.specs.Ranged.{cutPowerAt, cutPower, joined}
 use Rattle.definition.specs.Reversion.{identity, identityAt}
 use Rattle.definition.specs.Substitution as Plain
 use Rattle.definition.specs.Substitution.{
@@ -122,6 +122,10 @@ substituted-series f g = fun-ext λ k.
 pub length-cutProduct : (p n : ℕ) (a b : List ℕ) → length (cutProduct p n a b) ≡ n
 unfolding cutProduct
 length-cutProduct p n a b = length-tabulate n (cutProductAt p a b)
+
+pub length-cutSum : (p n : ℕ) (a b : List ℕ) → length (cutSum p n a b) ≡ n
+unfolding cutSum
+length-cutSum p n a b = length-tabulate n (cutSumAt p a b)
 
 module _ {p : ℕ} where
   pub listed : ℕ → Series (Residue p) → List ℕ
@@ -218,10 +222,10 @@ module _ {p : ℕ} (l : 0 < p) where
       reduced-listed n (λ k. coefficient a k + coefficient b k) ∙ ap (listed n) (reduced-⊞ (coefficient a) (coefficient b))
 
   pub joined-listed : (n : ℕ) (s t u : List ℕ) → joined p n s t u ≡ listed n (series-of s ⊞ series-of t ⊠ series-of u)
-  unfolding joined joinedAt
+  unfolding joined
   joined-listed n s t u =
-      reduced-listed n (λ k. coefficient s k + product (coefficient t) (coefficient u) k)
-      ∙ ap (listed n) (rw (reduced-⊞ (coefficient s) (product (coefficient t) (coefficient u)), reduced-⊠))
+      rw (cutSum-listed, cutProduct-listed)
+      (listed-agree (agree-⊞ (residues l) (agree-refl (series-of s)) (series-listed n (series-of t ⊠ series-of u))))
 
   -- a list that is spread holds numbers below p where the list does
   spread-below : (q : ℕ) (a : ℕ → ℕ) → ((k : ℕ) → a k < p) → (k : ℕ) → Bernstein.spread q a k < p

@@ -12,14 +12,12 @@ use mathlib.Core.Path.{_≡_, _∙_}
 use mathlib.Core.List.{List}
 use lib.ListN.{length}
 use lib.Seq.{sets, length-sets}
-use Rattle.algebra.specs.Lists.{length-tabulate}
 use Rattle.algebra.specs.Prime.{prime-positive}
 use Rattle.bernstein.specs.Level.{Joined, Room, nextAt}
 use Rattle.buffer.specs.Written.{length-part}
-use Rattle.definition.specs.Ranged.{joined, joinedAt}
 use Rattle.buffer.specs.Segments.{segment}
-use Rattle.product.specs.Single.{MultipliedAdd, Operands, addedProduct}
-use Rattle.route.specs.Within.{Within, within-trans, within-sets, segment-sets}
+use Rattle.product.specs.Single.{MultipliedAdd, Operands, addedProduct, length-added}
+use Rattle.buffer.specs.Within.{Within, within-trans, within-sets, segment-sets}
 
 pub room-length : {p n m : ℕ} {v w : List ℕ} → length v ≡ length w → Room p n m w → Room p n m v
 room-length e r = record {
@@ -49,22 +47,19 @@ module _ {p n m : ℕ} {w : List ℕ} (r : Room p n m w) where
     right = record { source = omega arith; target = omega arith; apart = inl (omega arith) };
   }
 
-  length-added : length (addedProduct p n (n + m) 0 (nextAt n m) w) ≡ n
-  unfolding joined
-  length-added = length-tabulate n (joinedAt p (segment w (nextAt n m) n) (segment w (n + m) n) (segment w 0 n))
-
 pub join-moved : {p n m : ℕ} {u v w : List ℕ} {result : ℕ} → Room p n m w → MultipliedAdd p n (n + m) 0 (nextAt n m) w v result
     → u ≡ sets v (n + m) (segment v (nextAt n m) n) → Joined p n m w u result
 join-moved {p} {n} {m} {u} {v} {w} r multiplied moved =
     let sum = addedProduct p n (n + m) 0 (nextAt n m) w in
+    let size : length sum ≡ n = length-added p n (n + m) 0 (nextAt n m) w in
     let e : length v ≡ length w = rw (multiplied .written) (length-sets w (nextAt n m) sum) in
     record {
       within =
           within-trans
-          (rw (multiplied .written) (within-sets w (nextAt n m) sum (omega arith) (omega (arith, length-added r))))
+          (rw (multiplied .written) (within-sets w (nextAt n m) sum (omega arith) (omega (arith, size))))
           (moved-within (room-length e r) moved);
       value =
           moved-value (room-length e r) moved
-          ∙ rw (multiplied .written) (segment-sets w (nextAt n m) sum n (length-added r) (omega arith));
+          ∙ rw (multiplied .written) (segment-sets w (nextAt n m) sum n size (omega arith));
       places = multiplied .places;
     }

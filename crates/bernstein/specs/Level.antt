@@ -30,7 +30,7 @@ use Rattle.definition.specs.Substitution.{composed}
 use Rattle.definition.specs.Weight.{bernsteinWeight}
 use Rattle.buffer.specs.Segments.{segment}
 use Rattle.route.specs.Table.{written-table}
-use Rattle.route.specs.Within.{Within, within-trans, within-wider, within-sets, segment-within, segment-sets}
+use Rattle.buffer.specs.Within.{Within, within-trans, within-wider, within-sets, segment-within, segment-sets}
 
 abbrev pub nextAt : ℕ → ℕ → ℕ
 nextAt n m = n + m + n

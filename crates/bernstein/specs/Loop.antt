@@ -33,7 +33,7 @@ use Rattle.definition.specs.Weight.{bernsteinWeight}
 use Rattle.parts.specs.Counts.{ceilDiv-half}
 use Rattle.parts.specs.Steps.{length-powers}
 use Rattle.buffer.specs.Segments.{segment, Apart}
-use Rattle.route.specs.Within.{Within, within-refl, within-trans, within-wider, within-sets, segment-within, segment-sets}
+use Rattle.buffer.specs.Within.{Within, within-refl, within-trans, within-wider, within-sets, segment-within, segment-sets}
 
 abbrev pub remaining : ℕ → ℕ → ℕ → ℕ → ℕ
 remaining p n m j = j * n + sum j (weightOfPart p n m)

@@ -23,7 +23,7 @@ use Rattle.definition.specs.Lists.{ceilDiv}
 use Rattle.parts.specs.Counts.{ceilDiv-half, ceilDiv-positive, partCount-half}
 use Rattle.parts.specs.Steps.{Parted, parted-length, length-spread}
 use Rattle.buffer.specs.Segments.{segment, Apart, segment-segment}
-use Rattle.route.specs.Within.{Within, rest-back, rest-lent, within-trans, within-wider, within-sets, within-rest, segment-within, segment-sets, segment-rest}
+use Rattle.buffer.specs.Within.{Within, rest-back, rest-lent, within-trans, within-wider, within-sets, within-rest, segment-within, segment-sets, segment-rest}
 
 module _ {p n m j order : ℕ} {w : List ℕ} (ready : PartReady p n m j w) (rounded : order ≡ ceilDiv n p) where
   half-order : 2 * order ≤ n + 1

@@ -2,7 +2,7 @@
 --
 --   Filling f t n before now k   the first k of the n places of the table of f are written from place t on
 --   filling-first filling-next filling-last   before the first turn, after one more, and after the last
---   filling-before filling-after   the places before the table, and those that are still to be written, are as they were
+--   filling-after   a place that is still to be written, or stands after the table, is as it was: place i of the segment from s on
 -- Assumes nothing.
 use Prim.Native.Nat.{ℕ, _+_, _<_, _≤_}
 use native.Mathlib.Numerals.{add-one}
@@ -12,8 +12,9 @@ use mathlib.Core.Path.{_≡_, refl, _∙_}
 use lib.ListN.{length, getD, set, length-set}
 use lib.Seq.{sets}
 use Rattle.algebra.specs.Lists.{length-tabulate}
-use Rattle.buffer.specs.Written.{getD-sets-after, getD-sets-other, sets-snoc}
-use Rattle.definition.specs.Lists.{tabulate}
+use Rattle.buffer.specs.Written.{getD-sets-after, sets-snoc}
+use Rattle.buffer.specs.Segments.{coefficient-segment, segment}
+use Rattle.definition.specs.Lists.{coefficient, tabulate}
 
 pub record Filling (f : ℕ → ℕ) (t n : ℕ) (before now : List ℕ) (k : ℕ) : Type 0 where
   pub few : k ≤ n
@@ -42,8 +43,7 @@ module _ {f : ℕ → ℕ} {t n : ℕ} {before now : List ℕ} {k : ℕ} (fillin
       let all : k ≡ n = omega (arith, filling .few) in
       filling .same ∙ rw all
 
-  pub filling-before : (i : ℕ) → i < t → getD now i 0 ≡ getD before i 0
-  filling-before i below = rw (filling .same) (getD-sets-other before t (tabulate k f) i 0 (λ j h e. omega arith))
-
-  pub filling-after : (i : ℕ) → t + k ≤ i → getD now i 0 ≡ getD before i 0
-  filling-after i past = rw (filling .same) (getD-sets-after before t (tabulate k f) i 0 (rw length-tabulate past))
+  pub filling-after : (s m i : ℕ) → t + k ≤ s + i → i < m → getD now (s + i) 0 ≡ coefficient (segment before s m) i
+  unfolding coefficient
+  filling-after s m i past inside =
+      rw (filling .same, coefficient-segment before s m i inside) (getD-sets-after before t (tabulate k f) (s + i) 0 (rw length-tabulate past))

@@ -2,9 +2,11 @@
 --
 --   Written   lists written into lists
 --   Bounded   lists of numbers below a bound
---   Filling   a loop that writes a table
 --   Segments  the places of a list from one on, and writes apart from them
+--   Within    lists that are equal outside some places
+--   Filling   a loop that writes a table
 pub mod Written
 pub mod Bounded
-pub mod Filling
 pub mod Segments
+pub mod Within
+pub mod Filling

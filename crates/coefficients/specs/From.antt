@@ -6,9 +6,9 @@
 --   place                           a place of a sum with a product
 -- Assumes nothing.
 use Prim.Native.Nat.{ℕ, _+_, _-_, _%_, _<_, _≤_}
-use native.Mathlib.Nat.{le-of-eq, sub-self}
+use native.Mathlib.Nat.{add-mod-mod, le-of-eq, sub-self}
 use native.Mathlib.Omega.{arith}
-use mathlib.Core.Path.{_≡_, ap}
+use mathlib.Core.Path.{_≡_, ap, _∙_}
 use mathlib.Core.List.{List}
 use lib.ListN.{length, getD, take, drop, set, length-drop}
 use lib.Seq.{sets, getD-drop, length-take-le, take-all}
@@ -17,8 +17,8 @@ use Rattle.buffer.specs.Segments.{segment, Apart, apart-within, coefficient-seg
 use Rattle.buffer.specs.Written.{getD-sets-after, sets-take}
 use Rattle.coefficients.specs.Operands.{Operands, addedProduct, length-added}
 use Rattle.definition.specs.Lists.{coefficient}
-use Rattle.definition.specs.Ranged.{joined, joinedAt}
-use Rattle.definition.specs.Substitution.{product}
+use Rattle.definition.specs.Ranged.{joined}
+use Rattle.definition.specs.Substitution.{cutProduct, cutProductAt, cutSum, cutSumAt, product}
 
 abbrev pub addedRest : ℕ → ℕ → ℕ → ℕ → ℕ → ℕ → List ℕ → List ℕ
 addedRest p n a b t first w = drop first (addedProduct p n a b t w)
@@ -36,9 +36,12 @@ pub from-last : (p n a b t first : ℕ) (w : List ℕ) → addedFrom p n a b t f
 from-last p n a b t first w =
     ap (sets w (t + first)) (take-all (n - first) (addedRest p n a b t first w) (le-of-eq (length-rest p n a b t first w)))
 
-pub place : (p n : ℕ) (s u v : List ℕ) (k : ℕ) → k < n → getD (joined p n s u v) k 0 ≡ joinedAt p s u v k
-unfolding joined coefficient
-place p n s u v k below = coefficient-tabulate n (joinedAt p s u v) k below
+pub place : (p n : ℕ) (s u v : List ℕ) (k : ℕ) → k < n
+    → coefficient (joined p n s u v) k ≡ (coefficient s k + product (coefficient u) (coefficient v) k) % p
+unfolding joined cutSum cutSumAt cutProduct cutProductAt
+place p n s u v k below =
+    coefficient-tabulate n (cutSumAt p s (cutProduct p n u v)) k below
+    ∙ rw (coefficient-tabulate n (cutProductAt p u v) k below, add-mod-mod)
 
 module _ {p n a b t : ℕ} {w : List ℕ} (o : Operands p n a b t w) (first : ℕ) where
   abbrev now : ℕ → List ℕ
@@ -47,7 +50,7 @@ module _ {p n a b t : ℕ} {w : List ℕ} (o : Operands p n a b t w) (first : �
   pub from-next : (k : ℕ) → first ≤ k → k < n
       → set (now k) (t + k) ((getD (now k) (t + k) 0 + product (coefficient (segment (now k) a n)) (coefficient (segment (now k) b n)) k) % p)
       ≡ now (k + 1)
-  unfolding joinedAt coefficient
+  unfolding coefficient
   from-next k past below =
       let whole : length rest ≡ n - first = length-rest p n a b t first w in
       let size : length done ≡ k - first = length-take-le (k - first) rest (omega arith) in

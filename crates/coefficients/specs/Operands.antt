@@ -9,9 +9,10 @@ use Prim.Native.Nat.{ℕ, _^_, _<_, _≤_}
 use mathlib.Core.Path.{_≡_}
 use mathlib.Core.List.{List}
 use lib.ListN.{length}
-use Rattle.algebra.specs.Lists.{length-tabulate}
+use Rattle.algebra.specs.Bridge.{length-cutSum}
 use Rattle.buffer.specs.Segments.{Apart, apart-length, segment}
-use Rattle.definition.specs.Ranged.{joined, joinedAt}
+use Rattle.definition.specs.Ranged.{joined}
+use Rattle.definition.specs.Substitution.{cutProduct}
 
 pub record Operands (p n a b t : ℕ) (w : List ℕ) : Type 0 where
   pub modulus : 0 < p
@@ -32,7 +33,7 @@ addedProduct p n a b t w = joined p n (segment w t n) (segment w a n) (segment w
 
 pub length-joined : (p n : ℕ) (s u v : List ℕ) → length (joined p n s u v) ≡ n
 unfolding joined
-length-joined p n s u v = length-tabulate n (joinedAt p s u v)
+length-joined p n s u v = length-cutSum p n s (cutProduct p n u v)
 
 pub length-added : (p n a b t : ℕ) (w : List ℕ) → length (addedProduct p n a b t w) ≡ n
 length-added p n a b t w = length-joined p n (segment w t n) (segment w a n) (segment w b n)

@@ -4,11 +4,11 @@
 --   block b j f          the part of f that begins at place b j, at most b long
 --   cutPower p n g e     g^e modulo p, cut to n places
 --   joined p n s t u     even + odd × G, cut to n places: two neighbours s and t become s + t × u
-use Prim.Native.Nat.{ℕ, _+_, _*_, _%_}
+use Prim.Native.Nat.{ℕ, _*_, _%_}
 use mathlib.Core.List.{List}
 use lib.ListN.{take, drop}
 use Rattle.definition.specs.Lists.{tabulate, coefficient}
-use Rattle.definition.specs.Substitution.{product, power}
+use Rattle.definition.specs.Substitution.{cutProduct, cutSum, power}
 
 unfoldable pub blockLength : ℕ
 blockLength = 4
@@ -22,8 +22,5 @@ cutPowerAt p g e k = power (coefficient g) e k % p
 unfoldable pub cutPower : ℕ → ℕ → List ℕ → ℕ → List ℕ
 cutPower p n g e = tabulate n (cutPowerAt p g e)
 
-unfoldable pub joinedAt : ℕ → List ℕ → List ℕ → List ℕ → ℕ → ℕ
-joinedAt p s t u k = (coefficient s k + product (coefficient t) (coefficient u) k) % p
-
 unfoldable pub joined : ℕ → ℕ → List ℕ → List ℕ → List ℕ → List ℕ
-joined p n s t u = tabulate n (joinedAt p s t u)
+joined p n s t u = cutSum p n s (cutProduct p n t u)

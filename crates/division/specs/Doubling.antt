@@ -5,7 +5,6 @@
 --   standing-kept        it is as it was after a change elsewhere
 --   standing-written     it agrees with what was written there
 --   standing-product     it agrees with the product that was written there
---   multiplied-within    a product changes its target alone
 --   Inverting Doubling   what `inverse` and `double` require
 --   Inverted             the contract of both: U is an inverse below k
 --   inverted-none inverted-first inverted-next inverted-doubled   no place, the first place, one step after others, and what a step does
@@ -30,8 +29,8 @@ use Rattle.buffer.specs.Segments.{segment, coefficient-segment}
 use Rattle.definition.specs.Lists.{coefficient}
 use Rattle.definition.specs.Substitution.{cutProduct}
 use Rattle.division.specs.Inverse.{Inverse, inverse-agree, inverse-doubled, inverse-first}
-use Rattle.product.specs.Single.{Multiplied}
-use Rattle.route.specs.Within.{Within, segment-sets, segment-within, within-refl, within-sets, within-trans, within-wider}
+use Rattle.product.specs.Single.{Multiplied, multiplied-within}
+use Rattle.buffer.specs.Within.{Within, segment-sets, segment-within, within-refl, within-sets, within-trans, within-wider}
 
 module _ {p : ℕ} (l : 0 < p) where
   open Semiring (residue-series l) using (_⊗_ as _⊠_)
@@ -88,11 +87,6 @@ module _ {p : ℕ} (l : 0 < p) where
       at (no h) =
           let e : k + (i - k) ≡ i = omega arith in
           rw e at (zero-at (i - k) (omega arith)) ∙ sym (cut-beyond (residues l) k (standing w t) i (omega arith))
-
-pub multiplied-within : {p n a b t s : ℕ} {v w : List ℕ} → Multiplied p n a b t v w s → Within t n v w
-multiplied-within {p} {n} {a} {b} {t} {v = v} done =
-    let product = cutProduct p n (segment v a n) (segment v b n) in
-    rw (done .written) (within-sets v t product (omega arith) (omega (arith, length-cutProduct p n (segment v a n) (segment v b n))))
 
 abbrev InverseAt : ℕ → ℕ → ℕ → ℕ → List ℕ → Type 0
 InverseAt p m c k w = (l : 0 < p) → Inverse (residues l) k (standing l w c) (standing l w (c + m))

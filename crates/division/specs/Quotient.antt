@@ -18,7 +18,7 @@ use mathlib.Core.List.{List, [], _∷_, reverse, reverse-cons}
 use lib.ListN.{length, getD, length-append, length-reverse, List·getD-append}
 use lib.Seq.{sets, getD-at}
 use Rattle.algebra.specs.Agree.{Agree, agree-sym, agree-trans}
-use Rattle.algebra.specs.Bridge.{cutProduct-listed, length-cutProduct, listed-agree, reduced, series-of}
+use Rattle.algebra.specs.Bridge.{cutProduct-listed, listed-agree, reduced, series-of}
 use Rattle.algebra.specs.Homomorphism.{coefficients-at}
 use Rattle.algebra.specs.Lists.{coefficient-tabulate, length-tabulate, tabulate-coefficient}
 use Rattle.algebra.specs.PlaneBridge.{quotient-listed}
@@ -29,10 +29,10 @@ use Rattle.definition.specs.KinoshitaLi.{negative, quotient}
 use Rattle.definition.specs.Lists.{coefficient, tabulate}
 use Rattle.definition.specs.Substitution.{cutProduct}
 use Rattle.buffer.specs.Segments.{segment}
-use Rattle.division.specs.Doubling.{Inverted, Inverting, multiplied-within, standing, standing-kept, standing-segment, standing-written}
+use Rattle.division.specs.Doubling.{Inverted, Inverting, standing, standing-kept, standing-segment, standing-written}
 use Rattle.division.specs.Inverse.{Inverse, inverse-agree, inverse-quotient}
-use Rattle.product.specs.Single.{Multiplied}
-use Rattle.route.specs.Within.{Within, within-sets, within-trans, within-wider, segment-sets, segment-within}
+use Rattle.product.specs.Single.{Multiplied, multiplied-value, multiplied-within}
+use Rattle.buffer.specs.Within.{Within, within-sets, within-trans, within-wider, segment-sets, segment-within}
 
 pub reversed : {A : Type 0} (d : A) (l : List A) (i j : ℕ) → i + j + 1 ≡ length l → getD (reverse l) i d ≡ getD l j d
 reversed d [] i j e = absurd (omega arith)
@@ -142,9 +142,7 @@ module _ (p m t : ℕ) (w : List ℕ) {w₁ : List ℕ} (modulus : 0 < p) (order
         length-w₃ = multiplied-within multiplied .size ∙ inverted .within .size ∙ factor .size
 
         written : u ≡ cutProduct p m (segment w₂ t m) (segment w₂ (t + m + m) m)
-        written =
-            rw (multiplied .written)
-            (segment-sets w₂ (t + m + m + m) _ m (length-cutProduct p m _ _) (omega (arith, inverted .within .size, factor .size)))
+        written = multiplied-value multiplied (omega (arith, inverted .within .size, factor .size))
 
         size : length u ≡ m
         size = length-part w₃ (t + m + m + m) m (omega (arith, length-w₃))

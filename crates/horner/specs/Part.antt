@@ -21,7 +21,6 @@ use mathlib.Core.Path.{_≡_, ap, _∙_}
 use mathlib.Core.List.{List, [], _∷_}
 use lib.ListN.{length, getD, drop, length-drop}
 use lib.Seq.{sets, drop-cons, getD-drop}
-use Rattle.algebra.specs.Bridge.{length-cutProduct}
 use Rattle.algebra.specs.Composition.{composed-∷, composed-constant}
 use Rattle.algebra.specs.Lists.{length-tabulate}
 use Rattle.definition.specs.Lists.{coefficient, tabulate}
@@ -30,9 +29,9 @@ use Rattle.definition.specs.Substitution.{composed, constant, cutProduct}
 use Rattle.definition.specs.Weight.{hornerWeight}
 use Rattle.horner.specs.Steps.{Taken, constant-added, running-apart, running-inside, running-last-place, runningPlace}
 use Rattle.buffer.specs.Segments.{segment, Apart, apart-length, apart-within}
-use Rattle.product.specs.Single.{Operands}
+use Rattle.product.specs.Single.{Operands, multiplied-value, multiplied-within}
 use Rattle.route.specs.Table.{written-table}
-use Rattle.route.specs.Within.{Within, within-refl, within-sets, within-trans, segment-sets, segment-within}
+use Rattle.buffer.specs.Within.{Within, segment-within, within-refl, within-sets, within-trans, within-wider}
 
 pub record PartOperands (p n : ℕ) (f : List ℕ) (b t : ℕ) (w : List ℕ) : Type 0 where
   pub modulus : 0 < p
@@ -88,10 +87,8 @@ module _ {p n : ℕ} {f : List ℕ} {b t : ℕ} {w : List ℕ} (o : PartOperands
 
       pub after-a : segment (step .between) to n ≡ cutProduct p n (composed p n taken inner) inner
       after-a =
-          rw (step .multiplied .written)
-          (segment-sets u to (cutProduct p n (segment u from n) (segment u b n)) n (length-cutProduct p n (segment u from n) (segment u b n))
-          (omega (arith, inside .1, o .inner .target, r .within .size))
-          ∙ rw (leaves, r .value, segment-within (r .within) b n (o .inner .apart)))
+          multiplied-value (step .multiplied) (omega (arith, inside .1, o .inner .target, r .within .size))
+          ∙ rw (leaves, r .value, segment-within (r .within) b n (o .inner .apart))
 
       pub after-b : segment v to n ≡ composed p n (next ∷ taken) inner
       after-b =
@@ -101,22 +98,17 @@ module _ {p n : ℕ} {f : List ℕ} {b t : ℕ} {w : List ℕ} (o : PartOperands
 
       pub running-next : Running p n f b t w v i (weight + result)
       running-next = record {
-        within = within-trans (r .within) (within-trans product-within sum-within);
+        within =
+            within-trans (r .within)
+            (within-trans
+            (within-wider (inside .0) (inside .1) (multiplied-within (step .multiplied)))
+            (rw (step .added)
+            (within-sets (step .between) to (((coefficient (step .between) to + next) % p) ∷ []) (inside .0)
+            (omega (arith, o .positive, inside .1)))));
         value = rw (← comes, drop-cons f i 0 (omega (arith, r .rest))) after-b;
         rest = omega (arith, r .rest);
         sum = omega (arith, r .sum, step .multiplied .places, suc-mul i n);
       }
-        where
-          product-within : Within t (2 * n) u (step .between)
-          product-within =
-              rw (step .multiplied .written)
-              (within-sets u to (cutProduct p n (segment u from n) (segment u b n)) (inside .0) (rw length-cutProduct (inside .1)))
-
-          sum-within : Within t (2 * n) (step .between) v
-          sum-within =
-              rw (step .added)
-              (within-sets (step .between) to (((coefficient (step .between) to + next) % p) ∷ []) (inside .0)
-              (omega (arith, o .positive, inside .1)))
 
 -- the top coefficient, as the code finds it and its place
 pub top-put : (p n t : ℕ) (f w : List ℕ) {i c r : ℕ} {v : List ℕ} → i ≡ length f - 1 → c ≡ coefficient f i → r ≡ runningPlace n t i

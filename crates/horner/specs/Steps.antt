@@ -13,7 +13,7 @@ use native.Mathlib.Omega.{arith}
 use mathlib.Core.List.{List, [], _∷_}
 use mathlib.Core.Logic.{_⊎_, inl, inr}
 use mathlib.Core.Path.{_≡_, ap, sym, _∙_}
-use lib.ListN.{length, set, take, drop, length-set}
+use lib.ListN.{set, take, drop, length-set}
 use lib.Seq.{drop-set-add, getD-set-other, getD-set-same, take-set-lt}
 use Rattle.algebra.specs.Bridge.{length-cutProduct}
 use Rattle.algebra.specs.Lists.{coefficient-tabulate, table-of}

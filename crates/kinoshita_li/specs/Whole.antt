@@ -30,7 +30,7 @@ use Rattle.definition.specs.Weight.{halvings, kinoshitaLiWeight}
 use Rattle.buffer.specs.Segments.{segment}
 use Rattle.route.specs.Contract.{Lent, Route, route-moved}
 use Rattle.route.specs.Table.{written-table}
-use Rattle.route.specs.Within.{Within, segment-sets, within-sets, within-wider}
+use Rattle.buffer.specs.Within.{Within, segment-sets, within-sets, within-wider}
 use Rattle.levels.specs.Level.{LevelLent, Levelled}
 use Rattle.levels.specs.Space.{first-steep, level-places, level-rows}
 

@@ -28,7 +28,7 @@ use Rattle.product.specs.Double.{productOf}
 use Rattle.product.specs.Planes.{held, held-kept}
 use Rattle.buffer.specs.Segments.{segment, length-segment}
 use Rattle.product.specs.declared.Rows.{Rows}
-use Rattle.route.specs.Within.{Within, within-sets, within-trans, within-wider, segment-sets, segment-within}
+use Rattle.buffer.specs.Within.{Within, within-sets, within-trans, within-wider, segment-sets, segment-within}
 use Rattle.bivariate.specs.Exact.{even-plane, opposite-exact, squared-exact}
 use Rattle.levels.specs.declared.Layout.{Layout}
 

@@ -26,7 +26,7 @@ use Rattle.definition.specs.Weight.{degreeBound, kinoshitaLiLevels}
 use Rattle.product.specs.Planes.{held}
 use Rattle.buffer.specs.Segments.{segment, segment-segment}
 use Rattle.product.specs.declared.Rows.{Rows}
-use Rattle.route.specs.Within.{Within, rest-back, rest-lent, within-rest, within-sets, within-trans, within-wider, segment-rest, segment-sets, segment-within}
+use Rattle.buffer.specs.Within.{Within, rest-back, rest-lent, within-rest, within-sets, within-trans, within-wider, segment-rest, segment-sets, segment-within}
 use Rattle.division.specs.Quotient.{Divided, length-quotient}
 use Rattle.bivariate.specs.Exact.{planeAt-column, window-segment}
 use Rattle.levels.specs.Graeffe.{Expanded, Graeffe, Parts, parts-length}

@@ -30,10 +30,10 @@ use Rattle.definition.specs.Refusal.{composeWork}
 use Rattle.definition.specs.Reversion.{Reversion}
 use Rattle.definition.specs.Substitution.{composed, cutProduct}
 use Rattle.buffer.specs.Segments.{Apart, segment, coefficient-segment, segment-kept, segment-segment}
-use Rattle.product.specs.Single.{Multiplied, Operands}
+use Rattle.product.specs.Single.{Multiplied, Operands, multiplied-value, multiplied-within}
 use Rattle.newton_step.specs.Newton.{correction, derivative, difference, differenceAt, newton-reversion}
 use Rattle.route.specs.Contract.{Lent, Route, lent-less}
-use Rattle.route.specs.Within.{Within, rest-back, rest-lent, segment-sets, within-sets, within-trans, within-wider}
+use Rattle.buffer.specs.Within.{Within, rest-back, rest-lent, segment-sets, within-sets, within-trans, within-wider}
 
 pub record ValuePut (p : ℕ) (g h before after : List ℕ) : Type 0 where
   pub value : segment after 0 (length h) ≡ composed p (length h) g h
@@ -153,9 +153,7 @@ module _ {p half : ℕ} (g h w : List ℕ) (lent : StepLent p half g h w) where
       size = within-w₂ .size ∙ put .within .size
 
       within-w₃ : Within 0 (composeWork n (length g)) w₂ w₃
-      within-w₃ =
-          rw (multiplied .written)
-          (within-sets w₂ (2 * n) (cutProduct p rest (segment w₂ half rest) (segment w₂ n rest)) (omega arith) (rw length-tabulate (omega arith)))
+      within-w₃ = within-wider (omega arith) (omega arith) (multiplied-within multiplied)
 
       apart : Apart w₁ half rest n rest
       apart = part (le-of-eq order) (omega arith) (put .within .size)
@@ -169,6 +167,4 @@ module _ {p half : ℕ} (g h w : List ℕ) (lent : StepLent p half g h w) where
       right = rw derived (segment-sets w₁ n (derivative p rest h) rest (length-tabulate rest _) (apart .target))
 
       product : segment w₃ (2 * n) rest ≡ correction p half rest g h
-      product =
-          rw (multiplied .written, left, right)
-          (segment-sets w₂ (2 * n) (correction p half rest g h) rest (length-tabulate rest _) (omega (arith, size, lent .lent .enough)))
+      product = multiplied-value multiplied (omega (arith, size, lent .lent .enough)) ∙ rw (left, right)

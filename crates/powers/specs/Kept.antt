@@ -36,8 +36,8 @@ use Rattle.definition.specs.Refusal.{limit}
 use Rattle.definition.specs.Substitution.{cutProduct}
 use Rattle.definition.specs.Weight.{powerProducts}
 use Rattle.buffer.specs.Segments.{segment, Apart}
-use Rattle.product.specs.Single.{Multiplied, Operands}
-use Rattle.route.specs.Within.{Within, segment-sets, segment-within, within-refl, within-sets, within-trans, within-wider}
+use Rattle.product.specs.Single.{Multiplied, Operands, multiplied-value, multiplied-within}
+use Rattle.buffer.specs.Within.{Within, segment-sets, segment-within, within-refl, within-sets, within-trans, within-wider}
 use Rattle.powers.specs.Powers.{cut-power, first-power, power-product, power-square}
 
 pub record Holds (p n b : ℕ) (g : List ℕ) (count : ℕ) (w : List ℕ) : Type 0 where
@@ -118,13 +118,6 @@ holds-next {p} {n} {b} {g} {i = suc i} {w} l some room holds = record { power = 
     at k below (yes last) = rw last next
     at k below (no other) = kept .power k (omega arith)
 
--- a product that was written to the n places from t on
-within-product : {p n a b t : ℕ} {v w : List ℕ} {r : ℕ} → Multiplied p n a b t v w r
-    → {s m : ℕ} → s ≤ t → t + n ≤ s + m → Within s m v w
-within-product {p} {n} {a} {b} {t} {v} {w} product low high =
-    rw (product .written)
-    (within-sets v t (cutProduct p n (segment v a n) (segment v b n)) low (rw length-cutProduct high))
-
 pub square-operands : {p n a t : ℕ} {w : List ℕ} → 0 < p → n ≤ limit → Apart w a n t n → Operands p n a a t w
 square-operands l order apart = record { modulus = l; order = omega arith; left = apart; right = apart }
 
@@ -152,17 +145,15 @@ unfolding blockLength powerProducts leadingZeros ones onesIn
 fourth-power {p} {n} {u} {v} {w} pre square fourth =
     let g = segment u 0 n in
     let squared : segment v (2 * n) n ≡ cutPower p n g 2 =
-    rw (square .written)
-    (segment-sets u (2 * n) (cutProduct p n g g) n (length-cutProduct p n g g) (omega (arith, pre .room))
-    ∙ power-product (pre .modulus) n g (first-power (pre .modulus) n g) (first-power (pre .modulus) n g)) in
-    let first : Within n (2 * n) u v = within-product square (omega arith) (omega arith) in
+    multiplied-value square (omega (arith, pre .room))
+    ∙ power-product (pre .modulus) n g (first-power (pre .modulus) n g) (first-power (pre .modulus) n g) in
+    let first : Within n (2 * n) u v = within-wider (omega arith) (omega arith) (multiplied-within square) in
     record {
-      within = within-trans first (within-product fourth (omega arith) (omega arith));
+      within = within-trans first (within-wider (omega arith) (omega arith) (multiplied-within fourth));
       value =
-          rw (fourth .written, squared)
-          (segment-sets v n (cutProduct p n (cutPower p n g 2) (cutPower p n g 2)) n (length-cutProduct p n (cutPower p n g 2) (cutPower p n g 2))
-          (omega (arith, first .size, pre .room))
-          ∙ power-product (pre .modulus) n g (cut-power (pre .modulus) n g 2) (cut-power (pre .modulus) n g 2));
+          multiplied-value fourth (omega (arith, first .size, pre .room))
+          ∙ rw squared
+          (power-product (pre .modulus) n g (cut-power (pre .modulus) n g 2) (cut-power (pre .modulus) n g 2));
       sum = omega (arith, square .places, fourth .places);
     }
 
@@ -180,7 +171,7 @@ squares-next {p} {n} {rounds} {i} {u} {v} {w} pre some below before now =
     let last : (i + 1 - 1) * n ≡ (i - 1) * n + n = rw (← suc-mul) (ap (λ k. k * n) (omega arith)) in
     let room : (i + 2) * n ≤ length v = rw (before .within .size) (le-trans (mul-le-mul-right n (omega arith)) (pre .room)) in
     record {
-      within = within-trans (within-wider (le-refl n) (omega arith) (before .within)) (within-product now (omega arith) (omega arith));
+      within = within-trans (within-wider (le-refl n) (omega arith) (before .within)) (within-wider (omega arith) (omega arith) (multiplied-within now));
       value = λ b g value. rw (now .written) (holds-next (pre .modulus) some room (before .value b g value));
       sum = omega (arith, before .sum, now .places);
     }

@@ -20,7 +20,7 @@ use Prim.Native.Nat.{ℕ, suc, _+_, _-_, _*_, _^_, _<_, _≤_}
 use native.Mathlib.Nat.{le-refl, le-trans, mul-le-mul, mul-le-mul-right, suc-mul}
 use native.Mathlib.Omega.{arith}
 use mathlib.Core.List.{List}
-use mathlib.Core.Logic.{inl, inr}
+use mathlib.Core.Logic.{inl}
 use mathlib.Core.Path.{_≡_, ap, _∙_}
 use lib.ListN.{length}
 use lib.Pow.{pow-mono}
@@ -31,7 +31,7 @@ use Rattle.definition.specs.Weight.{hornerWeight}
 use Rattle.horner.specs.Part.{Part, PartOperands}
 use Rattle.buffer.specs.Segments.{segment}
 use Rattle.product.specs.Single.{Operands}
-use Rattle.route.specs.Within.{Within, segment-within, within-trans, within-wider}
+use Rattle.buffer.specs.Within.{Within, segment-within, within-trans, within-wider}
 use Rattle.powers.specs.Kept.{Holds, holds-within, next-place}
 use Rattle.ranged.specs.Neighbours.{Joined}
 use Rattle.ranged.specs.Spans.{length-block, length-span, span, span-alone, span-block, span-composed, span-weight}

@@ -23,7 +23,7 @@ use Rattle.definition.specs.Substitution.{composed}
 use Rattle.definition.specs.Weight.{halvings, rangedWeight}
 use Rattle.buffer.specs.Segments.{segment}
 use Rattle.route.specs.Contract.{Lent}
-use Rattle.route.specs.Within.{Within, segment-within, within-trans, within-wider}
+use Rattle.buffer.specs.Within.{Within, segment-within, within-trans, within-wider}
 use Rattle.ranged.specs.Joins.{SpanOperands, SpanPart, span-small}
 use Rattle.powers.specs.Kept.{PowerOperands, Powers}
 use Rattle.ranged.specs.Spans.{span, span-whole}

@@ -25,7 +25,7 @@ use Rattle.refusal.specs.Bounds.{ReverseBounds, field-lent, reverse-bounds, rev
 use Rattle.refusal_tests.specs.Tests.{either-false}
 use Rattle.newton_step.specs.Step.{Reversed}
 use Rattle.reversion.specs.Iteration.{Reversible}
-use Rattle.route.specs.Within.{cleared-within}
+use Rattle.buffer.specs.Within.{cleared-within}
 
 reversible-constant : (n : ℕ) (g : List ℕ) → irreversible n g ≡ false → coefficient g 0 ≡ 0
 unfolding irreversible

@@ -21,7 +21,7 @@ use Rattle.definition.specs.Refusal.{exceeds}
 use Rattle.newton_step.specs.Step.{Reversed, StepLent}
 use Rattle.reversion.specs.Start.{started, started-reversion}
 use Rattle.route.specs.Contract.{Lent, lent-less}
-use Rattle.route.specs.Within.{within-refl, within-trans, within-wider}
+use Rattle.buffer.specs.Within.{within-refl, within-trans, within-wider}
 
 pub record Reversible (p : ℕ) (g h w : List ℕ) : Type 0 where
   pub prime : Prime p

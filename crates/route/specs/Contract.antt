@@ -26,7 +26,7 @@ use Rattle.definition.specs.Refusal.{composeWork, limit}
 use Rattle.definition.specs.Substitution.{composed}
 use Rattle.buffer.specs.Segments.{segment}
 use Rattle.route.specs.Table.{written-table}
-use Rattle.route.specs.Within.{Within, cleared-within, segment-sets, within-sets, within-trans, within-wider}
+use Rattle.buffer.specs.Within.{Within, cleared-within, segment-sets, within-sets, within-trans, within-wider}
 
 pub record Lent (p n m work : ℕ) : Type 0 where
   pub modulus : 0 < p

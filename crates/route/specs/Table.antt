@@ -14,7 +14,7 @@ use Rattle.buffer.specs.Written.{sets-set}
 use Rattle.definition.specs.Lists.{coefficient, tabulate}
 use Rattle.definition.specs.Substitution.{constant}
 use Rattle.buffer.specs.Segments.{segment}
-use Rattle.route.specs.Within.{segment-sets}
+use Rattle.buffer.specs.Within.{segment-sets}
 
 module _ (w : List ℕ) (t : ℕ) (f : ℕ → ℕ) where
   pub written-table : (n : ℕ) → t + n ≤ length w → segment (sets w t (tabulate n f)) t n ≡ tabulate n f

@@ -18,7 +18,7 @@ use Rattle.buffer.specs.Written.{getD-sets-after, sets-append}
 use Rattle.coefficients.specs.From.{addedRest, place}
 use Rattle.coefficients.specs.Operands.{Operands, addedProduct, length-added, length-joined}
 use Rattle.definition.specs.Lists.{coefficient}
-use Rattle.definition.specs.Ranged.{joined, joinedAt}
+use Rattle.definition.specs.Ranged.{joined}
 use Rattle.definition.specs.Substitution.{product, productTerm}
 
 product-cong : (a b c d : ℕ → ℕ) (k : ℕ) → ((i : ℕ) → i ≤ k → a i ≡ c i) → ((i : ℕ) → i ≤ k → b i ≡ d i) → product a b k ≡ product c d k
@@ -31,7 +31,7 @@ module _ (p : ℕ) {n c : ℕ} (few : c ≤ n) (a b t : ℕ) (w : List ℕ) wher
   cut d i below = coefficient-segment w d c i below ∙ sym (coefficient-segment w d n i (omega arith))
 
   pub added-front : addedProduct p c a b t w ≡ take c (addedProduct p n a b t w)
-  unfolding joinedAt coefficient
+  unfolding coefficient
   added-front =
       lists-equal c (addedProduct p c a b t w) (take c (addedProduct p n a b t w)) (length-added p c a b t w)
       (length-take-le c (addedProduct p n a b t w) (rw (length-added p n a b t w) few)) same
@@ -60,7 +60,7 @@ module _ {p n a b t : ℕ} {w : List ℕ} (o : Operands p n a b t w) (c : ℕ) (
       fewer apart = apart-within apart (omega arith) (omega arith) (omega arith) (omega arith)
 
   pub added-rest : (us : List ℕ) → length us ≤ c → addedRest p n a b t c (sets w t us) ≡ addedRest p n a b t c w
-  unfolding joinedAt coefficient
+  unfolding coefficient
   added-rest us short =
       rw (segment-kept (o .left) us (omega arith), segment-kept (o .right) us (omega arith))
       (lists-equal (n - c) (drop c (over (sets w t us))) (drop c (over w)) (size (sets w t us)) (size w) same)

@@ -111,7 +111,7 @@ same-length-7 c = search needs
 returns : tie.Need-returns
 returns c =
     let made = c .before .before .before .before .before .before .before .before .before .before .before .before .before .before .before .before .before in
-    record { written = c .before .before .add-places .ensures ∙ ap (sets _ _) (added-joined (start made .pre .0 .modulus) _ _ _ _ (product made) _ _) }
+    record { written = c .before .before .add-places .ensures ∙ ap (sets _ _) (added-joined (start made .pre .0 .modulus) _ _ _ _ (product made) _) }
 
 pub add-by-halves-spec : {M : Type 1} → statement M
 add-by-halves-spec =

@@ -78,7 +78,7 @@ returns : tie.Need-returns
 returns c =
     let made = c .before .before .before .before .before .before in
     let start = made .before .before .before .before .before .before in
-    record { written = c .before .before .add-places .ensures ∙ ap (sets _ _) (added-joined (start .pre .0 .modulus) _ _ _ _ (front made) _ _) }
+    record { written = c .before .before .add-places .ensures ∙ ap (sets _ _) (added-joined (start .pre .0 .modulus) _ _ _ _ (front made) _) }
 
 pub add-by-rows-spec : {M : Type 1} → statement M
 add-by-rows-spec =

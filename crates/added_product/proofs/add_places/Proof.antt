@@ -5,13 +5,14 @@ use native.Mathlib.Omega.{arith}
 use Prim.Native.Nat.{_-_}
 use mathlib.Core.Path.{_∙_}
 use Rattle.buffer.specs.Filling.{Filling, filling-after, filling-first, filling-last, filling-next}
+use Rattle.buffer.specs.Segments.{segment}
 use Rattle.definition.specs.Lists.{coefficient}
-use Rattle.added_product.specs.Added.{addedAt}
+use Rattle.definition.specs.Substitution.{cutSum, cutSumAt}
 use Rattle.added_product.proofs.add_places.Statement.{statement}
 use Rattle.added_product.proofs.add_places.Tie as tie
 
 abbrev Inv-loop : tie.InvT-loop
-Inv-loop p n z w₀ t k₀ w k = Filling (addedAt p t w₀ z) t n w₀ w k
+Inv-loop p n z w₀ t k₀ w k = Filling (cutSumAt p (segment w₀ t n) z) t n w₀ w k
 
 abbrev μ-loop : tie.MeasureT-loop
 μ-loop p n z w₀ t k₀ w k = n - k
@@ -60,17 +61,18 @@ loop-less : tie.Need-loop-less Inv-loop μ-loop
 loop-less c = search needs
 
 loop-again : tie.Need-loop-again Inv-loop μ-loop
-unfolding addedAt coefficient
+unfolding cutSumAt coefficient
 loop-again c =
     let turn = c .before .before .before .before in
     let filling = turn .before .loop .inv in
     filling-next filling (turn .loop-test .taken)
-    (c .sum .ensures ∙ rw (c .before .before .reduced .ensures, mod-add-mod, filling-after filling _ (le-refl _)))
+    (c .sum .ensures ∙ rw (c .before .before .reduced .ensures, mod-add-mod, filling-after filling _ _ _ (le-refl _) (turn .loop-test .taken)))
 
 same-length : tie.Need-same-length Inv-loop μ-loop
 same-length c = search needs
 
 returns : tie.Need-returns Inv-loop μ-loop
+unfolding cutSum
 returns c = filling-last (c .before .loop .inv) (omega arith)
 
 pub add-places-spec : {M : Type 1} → statement M

@@ -5,7 +5,7 @@ use native.Mathlib.Omega.{arith}
 use Prim.Native.Nat.{_-_, _<_, _≤_}
 use mathlib.Core.Path.{_≡_}
 use Rattle.division.specs.Doubling.{Inverted, inverted-first, inverted-next, inverted-none}
-use Rattle.route.specs.Within.{within-refl}
+use Rattle.buffer.specs.Within.{within-refl}
 use Rattle.division.proofs.inverse.Statement.{statement}
 use Rattle.division.proofs.inverse.Tie as tie
 

@@ -1,10 +1,10 @@
 -- `route::add_part` meets its contract: after k turns the first k places are written. Assumes nothing.
 use borrow.Author.Needs.{needs}
 use native.Mathlib.Omega.{arith}
-use Prim.Native.Nat.{_+_, _-_}
-use mathlib.Core.Path.{_∙_}
+use Prim.Native.Nat.{_+_, _-_, _%_}
+use mathlib.Core.Path.{ap₂, _∙_}
 use Rattle.buffer.specs.Filling.{Filling, filling-after, filling-first, filling-last, filling-next}
-use Rattle.buffer.specs.Segments.{coefficient-segment, segment}
+use Rattle.buffer.specs.Segments.{segment}
 use Rattle.definition.specs.Lists.{coefficient}
 use Rattle.definition.specs.Substitution.{cutSum, cutSumAt}
 use Rattle.route.proofs.add_part.Statement.{statement}
@@ -63,14 +63,9 @@ loop-again c =
     let start = at .before .before in
     let below = turn .loop-test .taken in
     let k = at .loop .k in
-    filling-next (at .loop .inv) below
-    (c .reduced-sum .ensures
-    ∙ rw (
-      coefficient-segment (start .args .w .now) (start .args .t) (start .args .n) k below,
-      coefficient-segment (start .args .w .now) (start .args .s) (start .args .n) k below,
-      filling-after (at .loop .inv) (start .args .t + k) (omega arith),
-      filling-after (at .loop .inv) (start .args .s + k) (omega (arith, start .pre .1)),
-    ))
+    let target = filling-after (at .loop .inv) (start .args .t) (start .args .n) k (omega arith) below in
+    let source = filling-after (at .loop .inv) (start .args .s) (start .args .n) k (omega (arith, start .pre .1)) below in
+    filling-next (at .loop .inv) below (c .reduced-sum .ensures ∙ ap₂ (λ x y. (x + y) % start .args .p) target source)
 
 same-length : tie.Need-same-length Inv-loop μ-loop
 same-length c = search needs
