@@ -44,10 +44,11 @@ enum {
     RUHITAPO_CHAIN_FULL = 11,           /* 64 or more cycles are done */
     RUHITAPO_FILE_TOO_LARGE = 12,       /* the job file, or an order or count in its header, is too large */
     RUHITAPO_FILE_CUT_SHORT = 13,       /* the job file lacks its header or a list */
-    RUHITAPO_BAD_INDEX = 14             /* the index is 16 or more */
+    RUHITAPO_BAD_INDEX = 14,            /* the index is 16 or more */
+    RUHITAPO_BAD_BLOCK_LENGTH = 15      /* the route is 2 and the block length is 0 or above 64 */
 };
 
-/* The routes of ruhitapo_compose and ruhitapo_cycle. All give the same coefficients; the weights differ. */
+/* The routes of a composition and of a cycle. All give the same coefficients; the weights differ. */
 enum {
     RUHITAPO_HORNER = 1,
     RUHITAPO_RANGED = 2,
@@ -61,6 +62,14 @@ enum {
 #define RUHITAPO_LARGEST_MODULUS 4294967295u
 #define RUHITAPO_MOST_CYCLES 64u
 #define RUHITAPO_PRIMES 16u
+
+/*
+ * The block length: route 2 cuts the outer list into blocks of so many places, the last of which may be shorter. All lengths give the same
+ * coefficients; the weights differ. The other routes do not read the length, and take any. It is 4 in the calls that have none.
+ */
+#define RUHITAPO_SHORTEST_BLOCK 1u
+#define RUHITAPO_LONGEST_BLOCK 64u
+#define RUHITAPO_BLOCK_LENGTH 4u
 
 /* The places of work that compose (m the count of f) and reverse (m the count of g) ask for at order n. */
 #define RUHITAPO_WORK_PLACES(n, m) (128 * (size_t)(n) + 8 * (size_t)(m))
@@ -79,9 +88,8 @@ typedef struct ruhitapo_answer {
 } ruhitapo_answer;
 
 /*
- * A chain of cycles, as a call left it: its modulus, its order and the cycles done. ruhitapo_open gives the first, each ruhitapo_cycle takes
- * one and gives the next: keep what a call returned and pass it on whole. A later version may add a field, and a program that does so stays
- * as it is.
+ * A chain of cycles, as a call left it: its modulus, its order and the cycles done. ruhitapo_open gives the first, each cycle takes one and
+ * gives the next: keep what a call returned and pass it on whole. A later version may add a field, and a program that does so stays as it is.
  */
 typedef struct ruhitapo_chain {
     uint32_t modulus;
@@ -139,6 +147,28 @@ ruhitapo_answer ruhitapo_compose(uint32_t route, uint32_t p, size_t n,
                                  uint32_t *work, size_t work_count);
 
 /*
+ * ruhitapo_compose with the block length `block`; ruhitapo_compose is this with RUHITAPO_BLOCK_LENGTH.
+ *
+ * Refused if, tested in this order:
+ *   1  route is not 1, 2, 3 or 4
+ *  15  route is 2, and block is 0 or above 64
+ *   2  p is not prime or above 4294967295
+ *   3  n is 0 or above 4096
+ *   4  f_count is above 4096
+ *   5  g_count is above 4096
+ *   6  out_count is not n
+ *   7  work_count is below 128 n + 8 f_count
+ *   8  a coefficient of f or g is p or more, in places of g from n on too
+ *
+ * Accepted: as ruhitapo_compose; the weight of route 2 is that of blocks of this length.
+ */
+ruhitapo_answer ruhitapo_compose_blocks(uint32_t route, size_t block, uint32_t p, size_t n,
+                                        const uint32_t *f, size_t f_count,
+                                        const uint32_t *g, size_t g_count,
+                                        uint32_t *out, size_t out_count,
+                                        uint32_t *work, size_t work_count);
+
+/*
  * The reverse series of g: the one h with constant term 0 and g(h) = x modulo x^n.
  *
  * Refused if, tested in this order:
@@ -172,12 +202,17 @@ ruhitapo_answer ruhitapo_reverse(uint32_t p, size_t n,
 ruhitapo_open_answer ruhitapo_open(uint32_t p, size_t n, uint32_t *running, size_t running_count);
 
 /*
- * What ruhitapo_cycle, below, calls; see there. The first arguments are the fields of the chain, and a later version may have more of them.
+ * What ruhitapo_cycle and ruhitapo_cycle_blocks, below, call; see there. The first arguments are the fields of the chain, and a later version
+ * may have more of them.
  */
 ruhitapo_cycle_answer ruhitapo_cycle_numbers(uint32_t modulus, size_t order, uint32_t done, uint32_t route,
                                              const uint32_t *list, size_t list_count,
                                              uint32_t *running, size_t running_count,
                                              uint32_t *work, size_t work_count);
+ruhitapo_cycle_answer ruhitapo_cycle_blocks_numbers(uint32_t modulus, size_t order, uint32_t done, uint32_t route, size_t block,
+                                                    const uint32_t *list, size_t list_count,
+                                                    uint32_t *running, size_t running_count,
+                                                    uint32_t *work, size_t work_count);
 
 /*
  * A cycle of the chain: the running series S becomes C(S) modulo x^n by the route named, C being the list. p is the chain's modulus, n its
@@ -204,6 +239,32 @@ static inline ruhitapo_cycle_answer ruhitapo_cycle(ruhitapo_chain chain, uint32_
 {
     return ruhitapo_cycle_numbers(chain.modulus, chain.order, chain.done, route, list, list_count, running, running_count,
                                   work, work_count);
+}
+
+/*
+ * ruhitapo_cycle with the block length `block`; ruhitapo_cycle is this with RUHITAPO_BLOCK_LENGTH.
+ *
+ * Refused if, tested in this order:
+ *   1  route is not 1, 2, 3 or 4
+ *  15  route is 2, and block is 0 or above 64
+ *   2  p is not prime or above 4294967295
+ *   3  n is 0 or above 4096
+ *   5  list_count is above 4096
+ *   6  running_count is not n
+ *   7  work_count is below 144 n + 8 list_count
+ *   8  a coefficient of list or running is p or more
+ *  10  the constant term of list or running is not zero
+ *  11  64 or more cycles are done
+ *
+ * Accepted: as ruhitapo_cycle; the weight is that of ruhitapo_compose_blocks with the list as f. Refused: the chain is as it was.
+ */
+static inline ruhitapo_cycle_answer ruhitapo_cycle_blocks(ruhitapo_chain chain, uint32_t route, size_t block,
+                                                          const uint32_t *list, size_t list_count,
+                                                          uint32_t *running, size_t running_count,
+                                                          uint32_t *work, size_t work_count)
+{
+    return ruhitapo_cycle_blocks_numbers(chain.modulus, chain.order, chain.done, route, block, list, list_count,
+                                         running, running_count, work, work_count);
 }
 
 /*

@@ -6,14 +6,16 @@
 //! constant term, so all are given one. At a prime of the table an opening is little more than a look
 //! at it; a prime outside, of the same size, is opened too, which is trial division. Printed are the
 //! shortest times and their ratios; below 1 the library is the quicker one. After each prime stand
-//! route 4 and reversion the other way round, FLINT's times over the library's. A picture of the
-//! times at the first prime goes to the file that is named.
+//! route 4 and reversion the other way round, FLINT's times over the library's. Then comes route 2
+//! at several block lengths, at the first prime. A picture of the times at that prime goes to the file
+//! that is named.
 
 #[allow(dead_code)]
 #[path = "../second/checks/mod.rs"]
 mod checks;
 #[allow(dead_code)]
 mod flint;
+mod lengths;
 #[path = "../linked/linked.rs"]
 mod linked;
 mod measure;
@@ -21,6 +23,7 @@ mod picture;
 #[allow(dead_code)]
 #[path = "../second/plain/mod.rs"]
 mod plain;
+mod runs;
 mod summary;
 
 use checks::library::{Library, Plain};
@@ -29,7 +32,8 @@ use linked::Linked;
 use measure::{measured, Beside, Row, ABORTS, NONE};
 use plain::primes::TABLE_LENGTH;
 use plain::random::Random;
-use plain::{reversion, routes};
+use plain::reversion;
+use plain::routes::{self, BLOCK_LENGTH};
 
 const MODULI: [u64; 3] = [2_147_483_647, 2, 7];
 const ORDERS: [usize; 4] = [64, 256, 1024, 4096];
@@ -69,8 +73,8 @@ fn composition(route: u64, case: &Case) -> Row {
     measured(
         ROUTES[route as usize - 1],
         *n,
-        |out, work| Linked::compose(route, *p, *n as u64, f, g, out, work),
-        quick.then_some(|| routes::by_number(route, *p, f, g, *n)),
+        |out, work| Linked::compose(route, None, *p, *n as u64, f, g, out, work),
+        quick.then_some(|| routes::by_number(route, *p, f, g, *n, BLOCK_LENGTH)),
         || flint::compose(*p as u32, f, g, *n).ok_or(NONE),
     )
 }
@@ -139,6 +143,7 @@ fn main() {
     assert!(outside, "the table holds {OUTSIDE}");
     let mut random = Random::new(1);
     let tables = MODULI.map(|p| measured_at(&mut random, p));
+    print!("{}", lengths::table(&lists(&mut random, MODULI[0], lengths::ORDER)));
     print!("{}", summary::NOTES);
     if tables[0].iter().all(|row| row.flint.is_err()) {
         println!("FLINT is not installed: 'make flint' installs it.");

@@ -15,14 +15,13 @@ mod measure;
 #[allow(dead_code)]
 #[path = "../second/plain/mod.rs"]
 mod plain;
+mod runs;
 mod straightforward;
 
-use checks::library::Library;
 use checks::support::Case;
-use linked::Linked;
 use measure::{ratio, shortest, Timed};
 use plain::random::Random;
-use plain::refusals::work_places;
+use runs::{by_library, times, Run};
 use std::time::Instant;
 use straightforward::{by_horner, by_ranged, Constant, RunTime};
 
@@ -60,39 +59,6 @@ fn lists(random: &mut Random, p: u64, n: usize, m: usize) -> Case {
     Case { p, n, f: list(m), g: list(n) }
 }
 
-/// The call of the library by this route, with buffers that are made before.
-fn by_library(route: u64, case: &Case) -> impl FnMut() -> Vec<u32> + '_ {
-    let Case { p, n, f, g } = case;
-    let mut out = vec![0; *n];
-    let mut work = vec![0; work_places(*n as u64, f.len()) as usize];
-    move || {
-        let answer = Linked::compose(route, *p, *n as u64, f, g, &mut out, &mut work);
-        assert_eq!(answer.number, 0, "route {route}, p = {p}, n = {n}");
-        out.clone()
-    }
-}
-
-/// A run that gives a list.
-type Run<'a> = Box<dyn FnMut() -> Vec<u32> + 'a>;
-
-/// The milliseconds of each run, which must give the same. They are measured in turn, several
-/// times, so that what else the machine does falls on all of them.
-fn times<'a>(
-    rounds: usize,
-    mut runs: Vec<Run<'a>>,
-    measure: impl Fn(&mut Run<'a>) -> Timed<Vec<u32>>,
-) -> Vec<f64> {
-    let mut best = vec![f64::INFINITY; runs.len()];
-    for _ in 0..rounds {
-        let found: Vec<_> = runs.iter_mut().map(&measure).collect();
-        for (i, (time, answer)) in found.iter().enumerate() {
-            assert!(*answer == found[0].1, "run {i} differs from run 0, the library");
-            best[i] = time.min(best[i]);
-        }
-    }
-    best
-}
-
 /// How many products a measurement makes. At small orders the test of the modulus takes longer than
 /// 64 products, so that more are made.
 fn products_at(n: usize) -> usize {
@@ -109,7 +75,7 @@ fn horner_times(case: &Case) -> Vec<f64> {
     let Case { p, n, f, g } = case;
     let (modulus, word) = (RunTime::new(*p), *p as u32);
     let mut runs: Vec<Run> =
-        vec![Box::new(by_library(1, case)), Box::new(move || by_horner(modulus, f, g, *n))];
+        vec![Box::new(by_library(1, None, case)), Box::new(move || by_horner(modulus, f, g, *n))];
     if flint::horner(word, f, g, *n).is_some() {
         runs.push(Box::new(move || flint::horner(word, f, g, *n).expect("FLINT is installed")));
     }
@@ -180,7 +146,7 @@ fn ranged_row(random: &mut Random, p: u64, n: usize) {
     let case = &lists(random, p, n, n);
     let modulus = RunTime::new(p);
     let runs = vec![
-        announced("library", case, by_library(2, case)),
+        announced("library", case, by_library(2, None, case)),
         announced("run time", case, move || by_ranged(modulus, &case.f, &case.g, n)),
         announced("constant", case, move || by_constant(case)),
     ];

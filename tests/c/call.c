@@ -98,17 +98,37 @@ static void compare_work(const struct call *c, uint32_t number)
     compare_buffer("work", &work_fence, sizeof(uint32_t));
 }
 
+/* The block length that the call has, or has without naming it. */
+static size_t block_length(const struct call *c)
+{
+    return c->block_given ? c->block : PLAIN_BLOCK;
+}
+
+static uint64_t expected_weight(const struct call *c, uint32_t number)
+{
+    return number == 0 ? plain_weight(c->route, block_length(c), c->p, c->n, c->f_count) : 0;
+}
+
+/* The library's answer to a composition. */
+static ruhitapo_answer composed(const struct call *c, const uint32_t *f, const uint32_t *g, uint32_t *out, uint32_t *work)
+{
+    if (c->block_given)
+        return ruhitapo_compose_blocks(c->route, c->block, c->p, c->n, f, c->f_count, g, c->g_count,
+                                       out, c->out_count, work, c->work_count);
+    return ruhitapo_compose(c->route, c->p, c->n, f, c->f_count, g, c->g_count, out, c->out_count, work, c->work_count);
+}
+
 static struct returned make_compose(const struct call *c)
 {
     const uint32_t *f = fence_list(&f_fence, c->f, c->f_count * sizeof *f, side(c, 0));
     const uint32_t *g = inner_list(c, f);
     uint32_t *out = fence_lend(&out_fence, c->out_count * sizeof *out, side(c, 2));
     uint32_t *work = fence_lend(&work_fence, c->work_count * sizeof *work, side(c, 3));
-    uint32_t number = plain_compose_number(c->route, c->p, c->n, f, c->f_count, g, c->g_count, c->out_count, c->work_count);
-    ruhitapo_answer answer = ruhitapo_compose(c->route, c->p, c->n, f, c->f_count, g, c->g_count,
-                                              out, c->out_count, work, c->work_count);
+    uint32_t number = plain_compose_number(c->route, block_length(c), c->p, c->n, f, c->f_count, g, c->g_count,
+                                           c->out_count, c->work_count);
+    ruhitapo_answer answer = composed(c, f, g, out, work);
     compare_number(c, number, answer.number);
-    call_compare("weight", number == 0 ? plain_weight(c->route, c->p, c->n, c->f_count) : 0, answer.weight);
+    call_compare("weight", expected_weight(c, number), answer.weight);
     if (number == 0)
         plain_compose(c->p, c->n, f, c->f_count, g, c->g_count, fence_expected(&out_fence));
     compare_buffer("output", &out_fence, sizeof *out);
@@ -160,6 +180,11 @@ static struct returned make_open(const struct call *c)
 static ruhitapo_cycle_answer cycled(const struct call *c, const uint32_t *list, uint32_t *running, uint32_t *work)
 {
     ruhitapo_chain chain = {c->p, c->n, c->done};
+    if (c->block_given && c->cycle_blocks != NULL)
+        return c->cycle_blocks(chain, c->route, c->block, list, c->f_count, running, c->out_count, work, c->work_count);
+    if (c->block_given)
+        return ruhitapo_cycle_blocks_numbers(c->p, c->n, c->done, c->route, c->block, list, c->f_count, running, c->out_count,
+                                             work, c->work_count);
     if (c->cycle != NULL)
         return c->cycle(chain, c->route, list, c->f_count, running, c->out_count, work, c->work_count);
     return ruhitapo_cycle_numbers(c->p, c->n, c->done, c->route, list, c->f_count, running, c->out_count, work, c->work_count);
@@ -170,14 +195,15 @@ static struct returned make_cycle(const struct call *c)
     const uint32_t *list = fence_list(&f_fence, c->f, c->f_count * sizeof *list, side(c, 0));
     uint32_t *running = fence_lend(&out_fence, c->out_count * sizeof *running, side(c, 2));
     uint32_t *work = fence_lend(&work_fence, c->work_count * sizeof *work, side(c, 3));
-    uint32_t number = plain_cycle_number(c->route, c->p, c->n, c->done, list, c->f_count, c->g, c->out_count, c->work_count);
+    uint32_t number = plain_cycle_number(c->route, block_length(c), c->p, c->n, c->done, list, c->f_count, c->g, c->out_count,
+                                         c->work_count);
     ruhitapo_cycle_answer answer;
     struct chain chain;
     memcpy(running, c->g, c->out_count * sizeof *running);
     memcpy(fence_expected(&out_fence), c->g, c->out_count * sizeof *running);
     answer = cycled(c, list, running, work);
     compare_number(c, number, answer.number);
-    call_compare("weight", number == 0 ? plain_weight(c->route, c->p, c->n, c->f_count) : 0, answer.weight);
+    call_compare("weight", expected_weight(c, number), answer.weight);
     chain = compare_chain((struct chain){c->p, c->n, c->done + (number == 0)}, answer.chain);
     if (number == 0)
         plain_compose(c->p, c->n, list, c->f_count, c->g, c->n, fence_expected(&out_fence));
@@ -218,11 +244,13 @@ static struct returned make_render(const struct call *c)
 static void describe(const struct call *c)
 {
     static const char *names[] = {"compose", "reverse", "open", "cycle", "prime", "render"};
+    int by_the_header = c->kind == CYCLE && (c->block_given ? c->cycle_blocks != NULL : c->cycle != NULL);
     snprintf(call_words, sizeof call_words,
-             "call %" PRIu64 ": %s%s, route %" PRIu32 ", p %" PRIu32 ", n %zu, done %" PRIu32 ", index %" PRIu32 ", number %" PRIu32
-             ", weight %" PRIu64 ", counts: f %zu, g %zu%s, out %zu, work %zu, text %zu, sides %u",
-             tally.calls, names[c->kind], c->cycle != NULL ? " by the header" : "", c->route, c->p, c->n, c->done, c->index, c->number,
-             c->weight, c->f_count, c->g_count, c->g_in_f ? " (a part of f)" : "", c->out_count, c->work_count, c->text_count, c->sides);
+             "call %" PRIu64 ": %s%s, route %" PRIu32 ", block length %zu%s, p %" PRIu32 ", n %zu, done %" PRIu32
+             ", index %" PRIu32 ", number %" PRIu32 ", weight %" PRIu64 ", counts: f %zu, g %zu%s, out %zu, work %zu, text %zu, sides %u",
+             tally.calls, names[c->kind], by_the_header ? " by the header" : "", c->route, block_length(c),
+             c->block_given ? "" : " (not given)", c->p, c->n, c->done, c->index, c->number, c->weight, c->f_count, c->g_count,
+             c->g_in_f ? " (a part of f)" : "", c->out_count, c->work_count, c->text_count, c->sides);
 }
 
 struct returned call_make(const struct call *call)

@@ -15,9 +15,12 @@ enum kind { COMPOSE, REVERSE, OPEN, CYCLE, PRIME, RENDER, KINDS };
 #define MOST_WORK (152u * 4096u + 64u)
 #define MOST_TEXT 46000u
 
-/* A cycle by its chain, as the header has it. */
+/* A cycle by its chain, as the header has it, without a block length and with one. */
 typedef ruhitapo_cycle_answer cycle_function(ruhitapo_chain chain, uint32_t route, const uint32_t *list, size_t list_count,
                                              uint32_t *running, size_t running_count, uint32_t *work, size_t work_count);
+typedef ruhitapo_cycle_answer cycle_blocks_function(ruhitapo_chain chain, uint32_t route, size_t block,
+                                                    const uint32_t *list, size_t list_count, uint32_t *running,
+                                                    size_t running_count, uint32_t *work, size_t work_count);
 
 /* Rendering has its list in g. A cycle has its list in f, the running series, which is as long as the output, in g; p and n are those of its
    chain. */
@@ -26,9 +29,12 @@ struct call {
     uint32_t route, p, done, index, number;
     uint64_t weight;
     size_t n, f_count, g_count, out_count, work_count, text_count;
-    cycle_function *cycle; /* makes the cycle; NULL: the exported function, with the numbers of the chain */
-    int g_in_f;            /* g is the first part of f, in the same memory */
-    unsigned sides;        /* a bit for each list: whether it ends at a page that is shut, or begins after one */
+    int block_given;                     /* a composition or a cycle is made by the call that takes a block length */
+    size_t block;                        /* that length */
+    cycle_function *cycle;               /* makes a cycle that is given none; NULL: the exported function, with the numbers of the chain */
+    cycle_blocks_function *cycle_blocks; /* the same for one that is given a length */
+    int g_in_f;                          /* g is the first part of f, in the same memory */
+    unsigned sides;                      /* a bit for each list: whether it ends at a page that is shut, or begins after one */
     uint32_t f[MOST_PLACES], g[MOST_PLACES];
 };
 

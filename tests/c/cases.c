@@ -76,6 +76,8 @@ static void valid_composition(struct call *c)
     c->g_count = random_count();
     random_list(c->p, c->f, MOST_PLACES);
     random_list(c->p, c->g, MOST_PLACES);
+    c->block_given = c->kind != REVERSE && random_below(2) == 0;
+    c->block = random_block(c->route);
     c->g_in_f = c->kind == COMPOSE && random_below(16) == 0;
     if (c->g_in_f && c->g_count > c->f_count)
         c->g_count = c->f_count;
@@ -133,7 +135,7 @@ static void damage_chain(struct call *c)
 
 static void damage_composition(struct call *c)
 {
-    switch (1 + random_below(9)) {
+    switch (1 + random_below(10)) {
     case 1: c->route = (uint32_t)(random_below(3) == 0 ? random_word() : 5 * random_below(2)); break;
     case 2: c->p = bad_moduli[random_below(COUNT(bad_moduli))]; break;
     case 3: damage_order(c); break;
@@ -142,6 +144,7 @@ static void damage_composition(struct call *c)
     case 6: c->out_count = random_below(3) == 0 ? 0 : one_off(c->out_count); break;
     case 7: c->work_count = random_below(3) == 0 ? 0 : random_below(c->work_count + 1); break;
     case 8: damage_coefficient(c); break;
+    case 9: c->block = random_refused_block(); break;
     default: c->kind == CYCLE ? damage_chain(c) : damage_reversion(c); break;
     }
 }
@@ -195,7 +198,7 @@ static uint64_t random_length(unsigned bits)
 static void random_rendering(struct call *c)
 {
     size_t i, bytes;
-    c->number = random_below(3) > 0 ? 0 : (uint32_t)(random_below(2) == 0 ? 1 + random_below(14) : 1 + random_length(31));
+    c->number = random_below(3) > 0 ? 0 : (uint32_t)(random_below(2) == 0 ? 1 + random_below(15) : 1 + random_length(31));
     c->n = c->g_count = random_order();
     c->weight = random_below(16) == 0 ? UINT64_MAX : random_length(64);
     for (i = 0; i < c->g_count; i++)
@@ -217,7 +220,10 @@ void random_call(struct call *c)
     c->route = c->p = c->done = c->index = c->number = 0;
     c->weight = 0;
     c->n = c->f_count = c->g_count = c->out_count = c->work_count = c->text_count = 0;
+    c->block_given = 0;
+    c->block = 0;
     c->cycle = random_below(2) == 0 ? ruhitapo_cycle : NULL;
+    c->cycle_blocks = random_below(2) == 0 ? ruhitapo_cycle_blocks : NULL;
     c->g_in_f = 0;
     c->sides = (unsigned)random_below(32);
     if (c->kind == PRIME)

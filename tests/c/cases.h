@@ -24,10 +24,25 @@ void edge_call(struct call *call, const struct edge *edge);
 /* Makes every call of the table of edges, its lists at both sides. */
 void edges_make(void);
 
+/* Makes calls with every block length that route 2 takes and with others, by every route, alone and beside every other reason to refuse. */
+void blocks_make(void);
+
+/* Makes the call of an edge with this block length, its lists at one side; a cycle by the header's function or by the exported one. */
+struct returned blocks_at(const struct edge *edge, size_t block, int by_the_header);
+
+/* A block length that the route takes: route 2 those from 1 to 64, the others any. */
+size_t random_block(uint32_t route);
+
+/* A block length that route 2 refuses. */
+size_t random_refused_block(void);
+
 /* Opens chains and cycles them until they are full, each call given the chain that the one before left, with refused calls among them. */
 void chains_make(void);
 
-/* Holds the constants, macros, structs and the function of the header against plain numbers and makes calls at the edge of each. */
+/* Holds the constants, macros, structs and declarations of the header against plain numbers and types. */
+void declared_compare(void);
+
+/* The same, and then makes calls at the edge of each, and by the functions that the header defines. */
 void header_make(void);
 
 /* A random call: valid, or damaged in one to three places. */

@@ -5,15 +5,18 @@
 #include <stdlib.h>
 #include <string.h>
 
-/* A cycle of this chain with a random list; in every fifth something is refused: the constant term, a coefficient, the work, the route. */
+/* A cycle of this chain with a random list and, in every second, a block length; in every fifth something is refused: the constant term, a
+   coefficient, the work, the route, the block length of route 2. */
 static void next_cycle(struct call *c, struct chain chain)
 {
-    uint64_t damage = random_below(20);
+    uint64_t damage = random_below(25);
     c->kind = CYCLE;
     c->p = chain.modulus;
     c->n = c->out_count = c->g_count = chain.order;
     c->done = chain.done;
-    c->route = damage == 0 ? 5 : 1 + (uint32_t)random_below(4);
+    c->route = damage == 0 ? 5 : damage == 4 ? 2 : 1 + (uint32_t)random_below(4);
+    c->block_given = damage == 4 || random_below(2) == 0;
+    c->block = damage == 4 ? random_refused_block() : random_block(c->route);
     c->f_count = 1 + random_below(8);
     random_list(c->p, c->f, c->f_count);
     c->f[0] = damage == 1;
@@ -22,6 +25,7 @@ static void next_cycle(struct call *c, struct chain chain)
     c->work_count = call_work_places(CYCLE, c->n, c->f_count, c->g_count) + random_below(3) - (damage == 3);
     c->sides = (unsigned)random_below(32);
     c->cycle = random_below(4) == 0 ? NULL : ruhitapo_cycle;
+    c->cycle_blocks = random_below(4) == 0 ? NULL : ruhitapo_cycle_blocks;
 }
 
 /* Opened after a refused opening, and cycled until 11 came back a few times. */

@@ -1,109 +1,12 @@
 /*
- * The header: every constant, macro and struct against plain numbers, and each at its edge, where a call that is made with it is accepted
- * and a call one beyond is refused; and the function that the header itself defines.
+ * The header: every constant and macro at its edge, where a call that is made with it is accepted and a call one beyond is refused; and the
+ * functions that the header itself defines.
  */
 #include "cases.h"
 
 #include <stdio.h>
-#include <string.h>
 
 #define COUNT(array) (sizeof(array) / sizeof *(array))
-
-/* What is written in the header, and the number that it stands for. */
-#define IS(number, written) {#written, written, number}
-
-static const struct {
-    const char *name;
-    uint64_t written, number;
-} constants[] = {
-    IS(0, RUHITAPO_ACCEPTED),
-    IS(1, RUHITAPO_BAD_ROUTE),
-    IS(2, RUHITAPO_BAD_MODULUS),
-    IS(3, RUHITAPO_BAD_ORDER),
-    IS(4, RUHITAPO_OUTER_LIST_TOO_LONG),
-    IS(5, RUHITAPO_INNER_LIST_TOO_LONG),
-    IS(6, RUHITAPO_NOT_N_PLACES),
-    IS(7, RUHITAPO_BUFFER_TOO_SHORT),
-    IS(8, RUHITAPO_COEFFICIENT_TOO_LARGE),
-    IS(9, RUHITAPO_NO_REVERSE_SERIES),
-    IS(10, RUHITAPO_CONSTANT_TERM),
-    IS(11, RUHITAPO_CHAIN_FULL),
-    IS(12, RUHITAPO_FILE_TOO_LARGE),
-    IS(13, RUHITAPO_FILE_CUT_SHORT),
-    IS(14, RUHITAPO_BAD_INDEX),
-    IS(1, RUHITAPO_HORNER),
-    IS(2, RUHITAPO_RANGED),
-    IS(3, RUHITAPO_BERNSTEIN),
-    IS(4, RUHITAPO_KINOSHITA_LI),
-    IS(4096, RUHITAPO_LARGEST_ORDER),
-    IS(4096, RUHITAPO_LONGEST_LIST),
-    IS(4294967295, RUHITAPO_LARGEST_MODULUS),
-    IS(64, RUHITAPO_MOST_CYCLES),
-    IS(16, RUHITAPO_PRIMES),
-    IS(45085, RUHITAPO_MOST_TEXT_BYTES),
-    /* in a product, with sums as arguments, and beyond 32 bits */
-    IS(2 * (128 * 4 + 8 * 3), 2 * RUHITAPO_WORK_PLACES(1 + 3, 1 + 2)),
-    IS(UINT64_C(136) * UINT32_MAX, RUHITAPO_WORK_PLACES(UINT32_MAX, UINT32_MAX)),
-    IS(2 * (144 * 4 + 8 * 3), 2 * RUHITAPO_CYCLE_WORK_PLACES(1 + 3, 1 + 2)),
-    IS(UINT64_C(152) * UINT32_MAX, RUHITAPO_CYCLE_WORK_PLACES(UINT32_MAX, UINT32_MAX)),
-    IS(2 * (29 + 11 * 4), 2 * RUHITAPO_TEXT_BYTES(1 + 3)),
-    IS(29 + UINT64_C(11) * UINT32_MAX, RUHITAPO_TEXT_BYTES(UINT32_MAX)),
-    /* the structs as the library lays them out */
-    IS(16, sizeof(ruhitapo_answer)),
-    IS(0, offsetof(ruhitapo_answer, number)),
-    IS(8, offsetof(ruhitapo_answer, weight)),
-    IS(24, sizeof(ruhitapo_chain)),
-    IS(0, offsetof(ruhitapo_chain, modulus)),
-    IS(8, offsetof(ruhitapo_chain, order)),
-    IS(16, offsetof(ruhitapo_chain, done)),
-    IS(40, sizeof(ruhitapo_open_answer)),
-    IS(0, offsetof(ruhitapo_open_answer, number)),
-    IS(8, offsetof(ruhitapo_open_answer, weight)),
-    IS(16, offsetof(ruhitapo_open_answer, chain)),
-    IS(40, sizeof(ruhitapo_cycle_answer)),
-    IS(0, offsetof(ruhitapo_cycle_answer, number)),
-    IS(8, offsetof(ruhitapo_cycle_answer, weight)),
-    IS(16, offsetof(ruhitapo_cycle_answer, chain)),
-    IS(8, sizeof(ruhitapo_prime_answer)),
-    IS(0, offsetof(ruhitapo_prime_answer, number)),
-    IS(4, offsetof(ruhitapo_prime_answer, prime)),
-    IS(16, sizeof(ruhitapo_text_answer)),
-    IS(0, offsetof(ruhitapo_text_answer, number)),
-    IS(8, offsetof(ruhitapo_text_answer, count)),
-};
-
-static void compare_constants(void)
-{
-    size_t i;
-    for (i = 0; i < COUNT(constants); i++)
-        call_compare(constants[i].name, constants[i].number, constants[i].written);
-}
-
-/* A field has so many bytes, and no sign. */
-#define FIELD(bytes, type, field)                                            \
-    do {                                                                     \
-        type value;                                                          \
-        memset(&value, 255, sizeof value);                                   \
-        call_compare(#type ", bytes of " #field, bytes, sizeof value.field); \
-        call_compare(#type ", no sign of " #field, 1, value.field > 0);      \
-    } while (0)
-
-static void compare_fields(void)
-{
-    FIELD(4, ruhitapo_answer, number);
-    FIELD(8, ruhitapo_answer, weight);
-    FIELD(4, ruhitapo_chain, modulus);
-    FIELD(sizeof(size_t), ruhitapo_chain, order);
-    FIELD(4, ruhitapo_chain, done);
-    FIELD(4, ruhitapo_open_answer, number);
-    FIELD(8, ruhitapo_open_answer, weight);
-    FIELD(4, ruhitapo_cycle_answer, number);
-    FIELD(8, ruhitapo_cycle_answer, weight);
-    FIELD(4, ruhitapo_prime_answer, number);
-    FIELD(4, ruhitapo_prime_answer, prime);
-    FIELD(4, ruhitapo_text_answer, number);
-    FIELD(sizeof(size_t), ruhitapo_text_answer, count);
-}
 
 /* Calls that return what a constant names, and calls at a limit and one beyond. */
 #define RETURNS(constant, ...) {#constant, constant, {__VA_ARGS__, ANY}}
@@ -190,9 +93,37 @@ static void compare_routes(void)
     uint32_t i, j;
     for (i = 0; i < COUNT(routes); i++) {
         struct edge edge = {COMPOSE, routes[i], 7, 8, 12, 8, 0, 0, ANY};
-        call_compare(names[i], plain_weight(i + 1, 7, 8, 12), at(&edge).beside);
+        call_compare(names[i], plain_weight(i + 1, PLAIN_BLOCK, 7, 8, 12), at(&edge).beside);
         for (j = 0; j < i; j++)
-            call_compare("weights that differ", 1, plain_weight(i + 1, 7, 8, 12) != plain_weight(j + 1, 7, 8, 12));
+            call_compare("weights that differ", 1,
+                         plain_weight(i + 1, PLAIN_BLOCK, 7, 8, 12) != plain_weight(j + 1, PLAIN_BLOCK, 7, 8, 12));
+    }
+}
+
+/* Route 2 takes the shortest block and the longest, and none beyond; a call that is given no length weighs as with the header's. Lengths
+   one off weigh otherwise, 13 places being cut. */
+static void compare_blocks(void)
+{
+    static const struct {
+        const char *name;
+        uint32_t number;
+        size_t block;
+    } lengths[] = {
+        {"RUHITAPO_BAD_BLOCK_LENGTH", RUHITAPO_BAD_BLOCK_LENGTH, 0},
+        {"RUHITAPO_SHORTEST_BLOCK", 15, RUHITAPO_SHORTEST_BLOCK - 1},
+        {"RUHITAPO_SHORTEST_BLOCK", 0, RUHITAPO_SHORTEST_BLOCK},
+        {"RUHITAPO_LONGEST_BLOCK", 0, RUHITAPO_LONGEST_BLOCK},
+        {"RUHITAPO_LONGEST_BLOCK", 15, RUHITAPO_LONGEST_BLOCK + 1},
+    };
+    static const struct edge edges[] = {{COMPOSE, 2, 7, 8, 13, 8, 0, 0, ANY}, {CYCLE, 2, 7, 8, 13, 0, 0, 0, ANY}};
+    size_t i, j;
+    for (i = 0; i < COUNT(edges); i++) {
+        uint64_t weight = at(edges + i).beside;
+        for (j = 0; j < COUNT(lengths); j++)
+            call_compare(lengths[j].name, lengths[j].number, blocks_at(edges + i, lengths[j].block, 0).number);
+        call_compare("RUHITAPO_BLOCK_LENGTH", weight, blocks_at(edges + i, RUHITAPO_BLOCK_LENGTH, 0).beside);
+        for (j = RUHITAPO_BLOCK_LENGTH - 1; j <= RUHITAPO_BLOCK_LENGTH + 1; j += 2)
+            call_compare("weights that differ", 1, blocks_at(edges + i, j, 0).beside != weight);
     }
 }
 
@@ -224,9 +155,11 @@ static void compare_work_places(void)
     }
 }
 
-/* The header's own function passes every number and list on and hands back what comes: cycles by it, at both sides of every test. */
-static void compare_cycle(void)
+/* The header's own functions pass every number and list on and hand back what comes: cycles by them, at both sides of every test, without
+   a block length or with each of these. */
+static void compare_cycles(const char *what, int block_given)
 {
+    static const size_t blocks[] = {0, 1, 2, 3, 4, 64, 65, (size_t)UINT32_MAX + 5, SIZE_MAX};
     static const struct edge edges[] = {
         {CYCLE, 0, 7, 4, 3, 0, 0, 0, ANY},   {CYCLE, 1, 7, 4, 3, 0, 0, 0, ANY},    {CYCLE, 2, 11, 9, 12, 5, 0, 0, ANY},
         {CYCLE, 3, 5, 9, 12, 63, 0, 0, ANY}, {CYCLE, 4, 13, 9, 12, 62, 0, 0, ANY}, {CYCLE, 1, 9, 4, 3, 7, 0, 0, ANY},
@@ -236,13 +169,16 @@ static void compare_cycle(void)
     };
     static struct call call;
     uint64_t before = tally.differences;
-    size_t i;
-    for (i = 0; i < COUNT(edges) && tally.differences == before; i++) {
-        edge_call(&call, edges + i);
+    size_t i, lengths = block_given ? COUNT(blocks) : 1;
+    for (i = 0; i < lengths * COUNT(edges) && tally.differences == before; i++) {
+        edge_call(&call, edges + i / lengths);
+        call.block_given = block_given;
+        call.block = blocks[i % lengths];
         call.cycle = ruhitapo_cycle;
+        call.cycle_blocks = ruhitapo_cycle_blocks;
         call_make(&call);
     }
-    call_compare("ruhitapo_cycle: differences of a call", 0, tally.differences - before);
+    call_compare(what, 0, tally.differences - before);
 }
 
 /* What rendering returns for the longest text of order n, or for a refusal, into so many bytes. */
@@ -275,14 +211,16 @@ static void compare_text_bytes(void)
 
 void header_make(void)
 {
-    compare_constants();
-    compare_fields();
+    declared_compare();
     /* a chain passes by value where both sides lay it out alike */
-    if (tally.differences == 0)
-        compare_cycle();
+    if (tally.differences == 0) {
+        compare_cycles("ruhitapo_cycle: differences of a call", 0);
+        compare_cycles("ruhitapo_cycle_blocks: differences of a call", 1);
+    }
     make_calls();
     compare_largest_modulus();
     compare_routes();
+    compare_blocks();
     compare_work_places();
     compare_text_bytes();
 }

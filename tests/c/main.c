@@ -1,6 +1,6 @@
 /*
- * The C interface, held against a plain second implementation in C: the header, every edge, whole chains, then seeded random calls, on lists
- * between pages that are shut. Arguments: the seed and the count of calls.
+ * The C interface, held against a plain second implementation in C: the header, every edge, every block length, whole chains, then seeded
+ * random calls, on lists between pages that are shut. Arguments: the seed and the count of calls.
  */
 #define _DEFAULT_SOURCE
 #include "call.h"
@@ -85,6 +85,7 @@ int main(int count, char **arguments)
     call_begin();
     header_make();
     edges_make();
+    blocks_make();
     chains_make();
     while (tally.calls < calls) {
         random_call(&call);

@@ -18,18 +18,21 @@ uint32_t plain_table(uint32_t index);
 extern const uint32_t plain_compose_tests[], plain_reverse_tests[], plain_open_tests[], plain_cycle_tests[], plain_prime_tests[],
     plain_render_tests[];
 
-/* The number that each call returns. */
-uint32_t plain_compose_number(uint32_t route, uint32_t p, size_t n, const uint32_t *f, size_t f_count,
+/* The number that each call returns; `block` is the block length. */
+uint32_t plain_compose_number(uint32_t route, size_t block, uint32_t p, size_t n, const uint32_t *f, size_t f_count,
                               const uint32_t *g, size_t g_count, size_t out_count, size_t work_count);
 uint32_t plain_reverse_number(uint32_t p, size_t n, const uint32_t *g, size_t g_count, size_t out_count, size_t work_count);
 uint32_t plain_open_number(uint32_t p, size_t n, size_t running_count);
-uint32_t plain_cycle_number(uint32_t route, uint32_t p, size_t n, uint32_t done, const uint32_t *list, size_t list_count,
-                            const uint32_t *running, size_t running_count, size_t work_count);
+uint32_t plain_cycle_number(uint32_t route, size_t block, uint32_t p, size_t n, uint32_t done, const uint32_t *list,
+                            size_t list_count, const uint32_t *running, size_t running_count, size_t work_count);
 uint32_t plain_prime_number(uint32_t index);
 uint32_t plain_render_number(uint32_t number, size_t n, size_t list_count, size_t bytes, size_t text_count);
 
+/* The block length of the calls that have none. */
+#define PLAIN_BLOCK 4u
+
 /* The weight of an accepted composition of an outer list of m places. */
-uint64_t plain_weight(uint32_t route, uint64_t p, uint64_t n, uint64_t m);
+uint64_t plain_weight(uint32_t route, uint64_t block, uint64_t p, uint64_t n, uint64_t m);
 
 /* out = f(g) modulo x^n, by the powers of g. */
 void plain_compose(uint32_t p, size_t n, const uint32_t *f, size_t f_count, const uint32_t *g, size_t g_count, uint32_t *out);

@@ -1,10 +1,10 @@
 /* The tests of each call in their order, the number that it returns, and the weight of each route, by their rules. */
 #include "plain.h"
 
-const uint32_t plain_compose_tests[] = {1, 2, 3, 4, 5, 6, 7, 8, 0};
+const uint32_t plain_compose_tests[] = {1, 15, 2, 3, 4, 5, 6, 7, 8, 0};
 const uint32_t plain_reverse_tests[] = {2, 3, 5, 6, 7, 8, 9, 0};
 const uint32_t plain_open_tests[] = {2, 3, 6, 0};
-const uint32_t plain_cycle_tests[] = {1, 2, 3, 5, 6, 7, 8, 10, 11, 0};
+const uint32_t plain_cycle_tests[] = {1, 15, 2, 3, 5, 6, 7, 8, 10, 11, 0};
 const uint32_t plain_prime_tests[] = {14, 0};
 const uint32_t plain_render_tests[] = {3, 6, 7, 0};
 
@@ -14,6 +14,16 @@ static uint32_t first(const uint32_t *tests, const int *fires)
     while (*tests != 0 && !fires[*tests])
         tests++;
     return *tests;
+}
+
+static int bad_route(uint32_t route)
+{
+    return route < 1 || route > 4;
+}
+
+static int bad_block(uint32_t route, size_t block)
+{
+    return route == 2 && (block < 1 || block > 64);
 }
 
 /* No number of 32 bits is above the largest modulus. */
@@ -36,11 +46,12 @@ static int exceeds(uint32_t p, const uint32_t *list, size_t count)
     return 0;
 }
 
-uint32_t plain_compose_number(uint32_t route, uint32_t p, size_t n, const uint32_t *f, size_t f_count,
+uint32_t plain_compose_number(uint32_t route, size_t block, uint32_t p, size_t n, const uint32_t *f, size_t f_count,
                               const uint32_t *g, size_t g_count, size_t out_count, size_t work_count)
 {
     const int fires[NUMBERS] = {
-        [1] = route < 1 || route > 4,
+        [1] = bad_route(route),
+        [15] = bad_block(route, block),
         [2] = bad_modulus(p),
         [3] = bad_order(n),
         [4] = f_count > 4096,
@@ -83,11 +94,12 @@ uint32_t plain_open_number(uint32_t p, size_t n, size_t running_count)
     return first(plain_open_tests, fires);
 }
 
-uint32_t plain_cycle_number(uint32_t route, uint32_t p, size_t n, uint32_t done, const uint32_t *list, size_t list_count,
-                            const uint32_t *running, size_t running_count, size_t work_count)
+uint32_t plain_cycle_number(uint32_t route, size_t block, uint32_t p, size_t n, uint32_t done, const uint32_t *list,
+                            size_t list_count, const uint32_t *running, size_t running_count, size_t work_count)
 {
     const int fires[NUMBERS] = {
-        [1] = route < 1 || route > 4,
+        [1] = bad_route(route),
+        [15] = bad_block(route, block),
         [2] = bad_modulus(p),
         [3] = bad_order(n),
         [5] = list_count > 4096,
@@ -126,11 +138,20 @@ static uint64_t smaller(uint64_t a, uint64_t b)
     return a < b ? a : b;
 }
 
-static uint64_t ranged_weight(uint64_t n, uint64_t m)
+/* The products that form g^b: a squaring for each binary digit of b after the first, and one by g where that digit is 1. */
+static uint64_t power_products(uint64_t b)
 {
-    uint64_t blocks = rounded_up(m, 4), products = m - blocks;
+    uint64_t products = 0;
+    for (; b > 1; b /= 2)
+        products += 1 + b % 2;
+    return products;
+}
+
+static uint64_t ranged_weight(uint64_t block, uint64_t n, uint64_t m)
+{
+    uint64_t blocks = rounded_up(m, block), products = m - blocks;
     if (blocks > 1)
-        products += 2;
+        products += power_products(block);
     while (blocks > 1) {
         products += blocks / 2;
         blocks = rounded_up(blocks, 2);
@@ -163,7 +184,7 @@ static uint64_t kinoshita_li_weight(uint64_t n, uint64_t m)
     return weight;
 }
 
-uint64_t plain_weight(uint32_t route, uint64_t p, uint64_t n, uint64_t m)
+uint64_t plain_weight(uint32_t route, uint64_t block, uint64_t p, uint64_t n, uint64_t m)
 {
     if (m == 0)
         return 0;
@@ -171,7 +192,7 @@ uint64_t plain_weight(uint32_t route, uint64_t p, uint64_t n, uint64_t m)
     case 1:
         return (m - 1) * n;
     case 2:
-        return ranged_weight(n, m);
+        return ranged_weight(block, n, m);
     case 3:
         return bernstein_weight(p, n, m);
     default:

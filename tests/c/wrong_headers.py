@@ -1,7 +1,8 @@
 """Wrong headers, which the tests of the header must refuse.
 
-Each is the header with one edit; every constant, macro and struct of it is edited, and the function that it defines. tests/c/header.c is
-built with the edited header and must name what was edited; with the header as it is it names nothing.
+Each is the header with one edit; every constant, macro and struct of it is edited, every function that it declares, and those that it
+defines. tests/c/declared.c and tests/c/header.c are built with the edited header and must name what was edited; with the header as it is
+they name nothing.
 
 Usage: wrong_headers.py ARCHIVE
 """
@@ -15,6 +16,8 @@ import tempfile
 
 TESTS = pathlib.Path(__file__).resolve().parent
 HEADER = TESTS.parents[1] / "include" / "ruhitapo.h"
+# what is built with the edited header
+EDITED = ["declared", "header"]
 MAIN = """
 #include "cases.h"
 int main(void) { call_begin(); header_make(); return 0; }
@@ -72,20 +75,55 @@ TYPES = {
     "size_t": ["uint16_t", "int64_t"],
     "ruhitapo_chain": ["uint64_t"],
 }
-# parts of what the function passes on, and then wrong
-PASSED = [
+# parts of what a function passes on, and then wrong
+CYCLE_PASSED = [
     ("chain.modulus, chain.order, chain.done,", "chain.done, chain.order, chain.modulus,"),
     ("chain.modulus, chain.order, chain.done,", "chain.modulus, chain.order, 0,"),
     ("chain.modulus, chain.order, chain.done,", "chain.modulus, running_count, chain.done,"),
     ("chain.modulus, chain.order, chain.done,", "7, chain.order, chain.done,"),
     ("chain.done, route,", "route, chain.done,"),
     ("chain.done, route,", "chain.done, 1,"),
-    ("route, list, list_count,", "route, list, list_count / 2,"),
-    ("route, list, list_count,", "route, running, list_count,"),
+    (" list, list_count,", " list, list_count / 2,"),
+    (" list, list_count,", " running, list_count,"),
     ("running, running_count,", "running, chain.order,"),
     ("work, work_count);", "work, RUHITAPO_CYCLE_WORK_PLACES(chain.order, list_count));"),
-    ("running, running_count,\n                                  work, work_count);", "work, work_count, running, running_count);"),
+    ("running, running_count, work, work_count);", "work, work_count, running, running_count);"),
 ]
+# the functions that the header defines
+PASSED = {
+    "ruhitapo_cycle": CYCLE_PASSED,
+    "ruhitapo_cycle_blocks": [
+        *CYCLE_PASSED,
+        ("route, block,", "block, route,"),
+        ("route, block,", "route, RUHITAPO_BLOCK_LENGTH,"),
+        ("route, block,", "route, route,"),
+        ("route, block,", "route, list_count,"),
+        ("route, block,", "route, block + 1,"),
+        ("route, block,", "route, (uint32_t)block,"),
+        ("route, block,", "route, block > RUHITAPO_LONGEST_BLOCK ? RUHITAPO_LONGEST_BLOCK : block,"),
+        ("blocks_numbers(chain.modulus, chain.order, chain.done, route, block,", "numbers(chain.modulus, chain.order, chain.done, route,"),
+    ],
+}
+# the first argument of each function that the header declares, and others; then wrong
+DECLARED = {
+    "ruhitapo_compose": [("uint32_t route,", "uint64_t route,")],
+    "ruhitapo_compose_blocks": [
+        ("uint32_t route,", "uint64_t route,"),
+        ("size_t block,", "uint32_t block,"),
+        ("uint32_t route, size_t block,", "size_t block, uint32_t route,"),
+        ("size_t block, uint32_t p,", "uint32_t p, size_t block,"),
+    ],
+    "ruhitapo_reverse": [("uint32_t p,", "uint64_t p,")],
+    "ruhitapo_open": [("uint32_t p,", "uint64_t p,")],
+    "ruhitapo_cycle_numbers": [("uint32_t modulus,", "uint64_t modulus,")],
+    "ruhitapo_cycle_blocks_numbers": [
+        ("uint32_t modulus,", "uint64_t modulus,"),
+        ("size_t block,", "uint32_t block,"),
+        ("uint32_t route, size_t block,", "size_t block, uint32_t route,"),
+    ],
+    "ruhitapo_prime": [("uint32_t index", "uint64_t index")],
+    "ruhitapo_render": [("uint32_t number,", "uint64_t number,")],
+}
 
 
 def once(text, old, new):
@@ -135,13 +173,23 @@ def struct(name, fields):
     return "{\n" + "".join(f"    {field};\n" for field in fields) + f"}} ruhitapo_{name};"
 
 
+def wrong_declarations(text):
+    found = re.findall(r"^ruhitapo_\w+ (\w+)\((.*?)\);", text, re.MULTILINE | re.DOTALL)
+    if [name for name, _ in found] != list(DECLARED):
+        sys.exit("the header declares other functions")
+    for name, arguments in found:
+        for part, wrong in DECLARED[name]:
+            yield (name,), once(text, f" {name}({arguments})", f" {name}({once(arguments, part, wrong)})")
+
+
 def wrong_functions(text):
-    if re.findall(r"^static inline \w+ (\w+)", text, re.MULTILINE) != ["ruhitapo_cycle"]:
+    found = re.findall(r"^static inline \w+ (\w+).*?return (.*?;)", text, re.MULTILINE | re.DOTALL)
+    if [name for name, _ in found] != list(PASSED):
         sys.exit("the header defines other functions")
-    for part, wrong in PASSED:
-        yield ("ruhitapo_cycle",), once(text, part, wrong)
-    call = re.search(r"return (ruhitapo_cycle_numbers\(.*?\);)", text, re.DOTALL).group(1)
-    yield ("ruhitapo_cycle",), once(text, f"return {call}", f"ruhitapo_cycle_answer answer = {call} answer.chain = chain; return answer;")
+    for name, call in found:
+        for part, wrong in PASSED[name]:
+            yield (name,), once(text, call, once(" ".join(call.split()), part, wrong))
+        yield (name,), once(text, f"return {call}", f"ruhitapo_cycle_answer answer = {call} answer.chain = chain; return answer;")
 
 
 def wrong_headers(text):
@@ -149,6 +197,7 @@ def wrong_headers(text):
     yield from wrong_limits(text)
     yield from wrong_macros(text)
     yield from wrong_structs(text)
+    yield from wrong_declarations(text)
     yield from wrong_functions(text)
 
 
@@ -159,18 +208,18 @@ def compiled(source, include, target):
 
 
 def differences(room, text, others, archive):
-    """What header.c names when it is built with this header."""
+    """What the tests of the header name when they are built with this one."""
     room.mkdir()
     (room / HEADER.name).write_text(text, encoding="utf-8")
-    own = compiled(TESTS / "header.c", room, room / "header.o")
-    subprocess.run(["gcc", "-o", room / "tests", own, *others, archive], check=True)
+    own = [compiled(TESTS / f"{name}.c", room, room / f"{name}.o") for name in EDITED]
+    subprocess.run(["gcc", "-o", room / "tests", *own, *others, archive], check=True)
     done = subprocess.run([room / "tests"], capture_output=True, text=True)
     return re.findall(r"^DIFFERENCE in (.*)$", done.stdout, re.MULTILINE)
 
 
 def refused(edited, named):
-    """Everything that was edited is named; where nothing was, nothing is."""
-    return all(any(name in line for line in named) for name in edited) and bool(named) == bool(edited)
+    """Everything that was edited is named, as a whole word; where nothing was, nothing is."""
+    return all(any(re.search(rf"\b{name}\b", line) for line in named) for name in edited) and bool(named) == bool(edited)
 
 
 def main(archive):
@@ -180,7 +229,7 @@ def main(archive):
     with tempfile.TemporaryDirectory() as name, concurrent.futures.ThreadPoolExecutor() as pool:
         room = pathlib.Path(name)
         (room / "main.c").write_text(MAIN, encoding="utf-8")
-        sources = [room / "main.c", *(source for source in TESTS.glob("*.c") if source.stem not in ("header", "main"))]
+        sources = [room / "main.c", *(source for source in TESTS.glob("*.c") if source.stem not in (*EDITED, "main"))]
         others = [compiled(source, HEADER.parent, room / f"{source.stem}.o") for source in sources]
         found = pool.map(lambda at: differences(room / str(at), cases[at][1], others, archive), range(len(cases)))
         for (edited, _), named in zip(cases, found):

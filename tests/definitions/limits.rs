@@ -24,38 +24,38 @@ pub fn all(random: &mut Random) -> Vec<Law> {
 /// One coefficient so many times as the outer list, the inner list, the series and the cycle.
 fn long_list(random: &mut Random, count: usize) -> Vec<String> {
     let (route, p) = (random.route(), random.pick(&PRIMES));
-    let c = random.coefficient(p);
+    let (block, c) = (random.block(), random.coefficient(p));
     let (long, shown) = (vec![c; count], format!("(replicate {count} {c})"));
     let work = refusals::cycle_work_places(1, count) as usize;
-    let outer = refusals::compose(route, p, 1, &long, &[], 1, work);
-    let inner = refusals::compose(route, p, 1, &[], &long, 1, work);
+    let outer = refusals::compose(route, block, p, 1, &long, &[], 1, work);
+    let inner = refusals::compose(route, block, p, 1, &[], &long, 1, work);
     let series = refusals::reverse(p, 1, &long, 1, work);
-    let cycle = refusals::cycle(route, p, 1, 0, &long, &[0], work);
+    let cycle = refusals::cycle(route, block, p, 1, 0, &long, &[0], work);
     let chain = record(Chain { modulus: p, order: 1, done: 0 });
     vec![
-        format!("composeRefusal {route} {p} 1 {shown} [] 1 {work} ≡ {outer}"),
-        format!("composeRefusal {route} {p} 1 [] {shown} 1 {work} ≡ {inner}"),
+        format!("composeRefusal {route} {block} {p} 1 {shown} [] 1 {work} ≡ {outer}"),
+        format!("composeRefusal {route} {block} {p} 1 [] {shown} 1 {work} ≡ {inner}"),
         format!("reverseRefusal {p} 1 {shown} 1 {work} ≡ {series}"),
-        format!("cycleRefusal {route} {chain} {shown} (0 ∷ []) {work} ≡ {cycle}"),
+        format!("cycleRefusal {route} {block} {chain} {shown} (0 ∷ []) {work} ≡ {cycle}"),
     ]
 }
 
 /// The order n, with every buffer long enough for it.
 fn order(random: &mut Random, n: u64) -> Vec<String> {
     let (route, p, places) = (random.route(), random.pick(&PRIMES), n as usize);
-    let zeros = vec![0; places];
+    let (block, zeros) = (random.block(), vec![0; places]);
     let work = refusals::cycle_work_places(n, 0) as usize;
     let text = render::text(0, n, 0, &zeros).len();
-    let compose = refusals::compose(route, p, n, &[], &[], places, work);
+    let compose = refusals::compose(route, block, p, n, &[], &[], places, work);
     let reverse = refusals::reverse(p, n, &[0, 1], places, work);
-    let cycle = refusals::cycle(route, p, n, 0, &[], &zeros, work);
+    let cycle = refusals::cycle(route, block, p, n, 0, &[], &zeros, work);
     let chain = record(Chain { modulus: p, order: n, done: 0 });
     let render = refusals::render(0, n, 0, &zeros, text);
     vec![
-        format!("composeRefusal {route} {p} {n} [] [] {n} {work} ≡ {compose}"),
+        format!("composeRefusal {route} {block} {p} {n} [] [] {n} {work} ≡ {compose}"),
         format!("reverseRefusal {p} {n} (0 ∷ 1 ∷ []) {n} {work} ≡ {reverse}"),
         format!("openRefusal {p} {n} {n} ≡ {}", refusals::open(p, n, places)),
-        format!("cycleRefusal {route} {chain} [] (replicate {n} 0) {work} ≡ {cycle}"),
+        format!("cycleRefusal {route} {block} {chain} [] (replicate {n} 0) {work} ≡ {cycle}"),
         format!("renderRefusal 0 {n} {n} {text} {text} ≡ {render}"),
     ]
 }
@@ -64,9 +64,9 @@ fn order(random: &mut Random, n: u64) -> Vec<String> {
 fn depth(random: &mut Random, power: u64) -> Vec<String> {
     let (count, other) = (power + 1 + random.below(power), 1 + random.below(40));
     vec![
-        format!("weight 3 2 {other} {count} ≡ {}", weights::bernstein(2, count, other)),
+        format!("weight 3 4 2 {other} {count} ≡ {}", weights::bernstein(2, count, other)),
         format!("rangedWeight 1 {other} {count} ≡ {}", weights::ranged(count, other, 1)),
-        format!("weight 4 2 {count} {other} ≡ {}", weights::kinoshita_li(other, count)),
+        format!("weight 4 4 2 {count} {other} ≡ {}", weights::kinoshita_li(other, count)),
     ]
 }
 

@@ -11,9 +11,13 @@ pub fn all(random: &mut Random) -> Vec<Law> {
     let mut laws = Vec::new();
     for route in 0..6 {
         let p = random.pick(&PRIMES);
-        laws.push(compose(random, p, route, 1 + route as usize % 2));
+        let block = random.block();
+        laws.push(compose(random, p, route, block, 1 + route as usize % 2));
     }
-    laws.push(compose(random, 7, 2, 0));
+    laws.push(compose(random, 7, 2, 4, 0));
+    for (route, block) in [(2, 0), (2, 1), (2, 64), (2, 65), (1, 0), (3, 65)] {
+        laws.push(compose(random, 7, route, block, 1));
+    }
     for fault in 0..4 {
         for _ in 0..4 {
             let p = random.pick(&PRIMES);
@@ -34,23 +38,24 @@ pub fn all(random: &mut Random) -> Vec<Law> {
 
 /// Accepted calls with this modulus: compose by every route, an opening and a cycle.
 pub fn accepted(random: &mut Random, p: u64) -> Vec<Law> {
-    let mut laws: Vec<Law> = (1..=4).map(|route| compose(random, p, route, 1)).collect();
+    let mut laws: Vec<Law> = (1..=4).map(|route| compose(random, p, route, 4, 1)).collect();
     laws.push(opening(random, p, 0));
     laws.push(cycle(random, p, 0));
     laws
 }
 
-/// Routes 0 and 5 are refused. The work lent is one place short for 0, exact for 1, one place more for 2.
-fn compose(random: &mut Random, p: u64, route: u64, lent: usize) -> Law {
+/// Routes 0 and 5 are refused, and by route 2 a block length of 0 or above 64. The work lent is one
+/// place short for 0, exact for 1, one place more for 2.
+fn compose(random: &mut Random, p: u64, route: u64, block: u64, lent: usize) -> Law {
     let n = 1;
     let (f, g) = (random.list(p, 2), random.list(p, 2));
     let places = refusals::work_places(n, f.len()) as usize + lent - 1;
     let (before, work_before) = (random.buffer(1), random.buffer(places));
     let (mut out, mut work) = (before.clone(), work_before.clone());
-    let answer = calls::compose(route, p, n, &f, &g, &mut out, &mut work);
+    let answer = calls::compose(route, block, p, n, &f, &g, &mut out, &mut work);
     let lists = [&f, &g, &before, &out, &work_before, &work].map(|places| list(places)).join(" ");
     Law::promised(
-        format!("Compose {route} {p} {n} {lists} {} {}", answer.number, answer.weight),
+        format!("Compose {route} {block} {p} {n} {lists} {} {}", answer.number, answer.weight),
         &["refusal", "weighs", "output", "clears"],
     )
 }
@@ -71,7 +76,7 @@ fn opening(random: &mut Random, prime: u64, fault: u64) -> Law {
 
 /// A cycle of a chain with so many done.
 fn cycle(random: &mut Random, modulus: u64, done: u64) -> Law {
-    let (route, n) = (random.route(), random.count(1, 2));
+    let (route, block, n) = (random.route(), random.block(), random.count(1, 2));
     let (mut c, mut before) = (random.list(modulus, 2), random.list(modulus, n));
     c[0] = 0;
     before[0] = 0;
@@ -79,11 +84,14 @@ fn cycle(random: &mut Random, modulus: u64, done: u64) -> Law {
     let work_before = random.buffer(places);
     let (mut series, mut work) = (before.clone(), work_before.clone());
     let chain = Chain { modulus, order: n as u64, done };
-    let (after, answer) = chain.cycle(route, &c, &mut series, &mut work);
+    let (after, answer) = chain.cycle(route, block, &c, &mut series, &mut work);
     let lists = [&c, &before, &series, &work_before, &work].map(|places| list(places)).join(" ");
     let (before, after) = (record(chain), record(after));
     Law::promised(
-        format!("Cycle {route} {before} {lists} {} {} {after}", answer.number, answer.weight),
+        format!(
+            "Cycle {route} {block} {before} {lists} {} {} {after}",
+            answer.number, answer.weight
+        ),
         &["refusal", "weighs", "records", "running", "clears"],
     )
 }

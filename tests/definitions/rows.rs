@@ -49,8 +49,9 @@ pub fn all(random: &mut Random) -> Vec<String> {
 
 fn weight(random: &mut Random) -> Vec<String> {
     let (p, n, m) = (untested(random), 1 + random.below(9), random.below(14));
-    let rule = |route| weights::by_number(route, p, m, n, 4);
-    (1..=4).map(|route| format!("weight {route} {p} {n} {m} ≡ {}", rule(route))).collect()
+    let block = random.block();
+    let rule = |route| weights::by_number(route, p, m, n, block);
+    (1..=4).map(|route| format!("weight {route} {block} {p} {n} {m} ≡ {}", rule(route))).collect()
 }
 
 fn block_lengths(random: &mut Random) -> String {
@@ -100,7 +101,7 @@ fn running(random: &mut Random) -> String {
     for _ in 0..random.count(0, 2) {
         let mut cycle = random.list(p, 3);
         cycle[0] = 0;
-        chain = chain.cycle(1, &cycle, &mut series, &mut work).0;
+        chain = chain.cycle(1, 4, &cycle, &mut series, &mut work).0;
         cycles.push(list(&cycle));
     }
     format!("running {p} {n} {} ≡ {}", list(&cycles), list(&series))
@@ -109,6 +110,7 @@ fn running(random: &mut Random) -> String {
 /// The number of each call, at arguments on both sides of its bounds.
 fn numbers(random: &mut Random) -> Vec<String> {
     let (route, p, n) = (random.below(6), random.below(14), random.below(5));
+    let block = random.pick(&[0, 1, 4, 64, 65]);
     let (outer, inner) = (random.count(0, 3), random.count(0, 3));
     let (f, g) = (random.list(p + 1, outer), random.list(p + 1, inner));
     let places = (n + random.below(5) / 4) as usize;
@@ -118,12 +120,12 @@ fn numbers(random: &mut Random) -> Vec<String> {
     let done = 62 + random.below(4);
     let (shown, shown_inner, shown_series) = (list(&f), list(&g), list(&series));
     let chain = record(Chain { modulus: p, order: n, done });
-    let compose = refusals::compose(route, p, n, &f, &g, places, work as usize);
-    let cycle = refusals::cycle(route, p, n, done, &f, &series, work as usize);
+    let compose = refusals::compose(route, block, p, n, &f, &g, places, work as usize);
+    let cycle = refusals::cycle(route, block, p, n, done, &f, &series, work as usize);
     let index = random.below(20);
     vec![
-        format!("composeRefusal {route} {p} {n} {shown} {shown_inner} {places} {work} ≡ {compose}"),
-        format!("cycleRefusal {route} {chain} {shown} {shown_series} {work} ≡ {cycle}"),
+        format!("composeRefusal {route} {block} {p} {n} {shown} {shown_inner} {places} {work} ≡ {compose}"),
+        format!("cycleRefusal {route} {block} {chain} {shown} {shown_series} {work} ≡ {cycle}"),
         format!("openRefusal {p} {n} {places} ≡ {}", refusals::open(p, n, places)),
         format!("tableRefusal {index} ≡ {}", refusals::table(index)),
     ]
@@ -136,9 +138,11 @@ fn late(random: &mut Random) -> String {
     cycle[0] = u32::from(random.once_in(4));
     series[0] = u32::from(random.once_in(4));
     let (done, work) = (62 + random.below(4), refusals::cycle_work_places(n as u64, 2));
-    let number = refusals::cycle(route, p, n as u64, done, &cycle, &series, work as usize);
+    let block = random.block();
+    let number = refusals::cycle(route, block, p, n as u64, done, &cycle, &series, work as usize);
     let chain = record(Chain { modulus: p, order: n as u64, done });
-    format!("cycleRefusal {route} {chain} {} {} {work} ≡ {number}", list(&cycle), list(&series))
+    let lists = format!("{} {}", list(&cycle), list(&series));
+    format!("cycleRefusal {route} {block} {chain} {lists} {work} ≡ {number}")
 }
 
 fn text(random: &mut Random) -> String {

@@ -18,13 +18,26 @@ fn answered(tally: &mut Tally, call: Call, input: &Input, value: &[u32], weight:
     out
 }
 
-/// What a compose by this route is given, with dirty buffers.
+/// What a compose by this route is given, without a block length, with dirty buffers.
 fn compose_input(random: &mut Random, route: u64, case: &Case) -> Input {
     let Case { p, n, f, g } = case;
     let (outer, inner, out) = (f.clone(), g.clone(), random.buffer(*n));
     let mut input = Input { route, p: *p, n: *n as u64, outer, inner, out, ..Input::default() };
     input.lend(random, Call::Compose);
     input
+}
+
+/// An accepted compose by route 2 with this block length, whose weight is that of the rule.
+pub fn composed_in_blocks(
+    tally: &mut Tally,
+    random: &mut Random,
+    block: u64,
+    case: &Case,
+    value: &[u32],
+) {
+    let mut input = compose_input(random, 2, case);
+    input.block = Some(block);
+    answered(tally, Call::Compose, &input, value, input.weight(case.f.len()));
 }
 
 /// An accepted compose by this route with this weight, whose output the caller judges.
@@ -107,6 +120,7 @@ pub struct Both;
 impl Library for Both {
     fn compose(
         route: u64,
+        block: Option<u64>,
         p: u64,
         n: u64,
         f: &[u32],
@@ -115,7 +129,7 @@ impl Library for Both {
         work: &mut [u32],
     ) -> Answer {
         let (outer, inner) = (f.to_vec(), g.to_vec());
-        let input = Input { route, p, n, outer, inner, ..Input::default() };
+        let input = Input { route, block, p, n, outer, inner, ..Input::default() };
         both(Call::Compose, input, out, work).1
     }
 
@@ -131,12 +145,13 @@ impl Library for Both {
     fn cycle(
         chain: Chain,
         route: u64,
+        block: Option<u64>,
         list: &[u32],
         running: &mut [u32],
         work: &mut [u32],
     ) -> (Chain, Answer) {
         let Chain { modulus: p, order: n, done } = chain;
-        let input = Input { route, p, n, done, inner: list.to_vec(), ..Input::default() };
+        let input = Input { route, block, p, n, done, inner: list.to_vec(), ..Input::default() };
         both(Call::Cycle, input, running, work)
     }
 

@@ -53,6 +53,21 @@ extern "C" {
         work_count: usize,
     ) -> CallAnswer;
 
+    fn ruhitapo_compose_blocks(
+        route: u32,
+        block: usize,
+        p: u32,
+        n: usize,
+        f: *const u32,
+        f_count: usize,
+        g: *const u32,
+        g_count: usize,
+        out: *mut u32,
+        out_count: usize,
+        work: *mut u32,
+        work_count: usize,
+    ) -> CallAnswer;
+
     fn ruhitapo_reverse(
         p: u32,
         n: usize,
@@ -90,6 +105,20 @@ extern "C" {
         work: *mut u32,
         work_count: usize,
     ) -> ChainAnswer;
+
+    fn ruhitapo_cycle_blocks_numbers(
+        modulus: u32,
+        order: usize,
+        done: u32,
+        route: u32,
+        block: usize,
+        list: *const u32,
+        list_count: usize,
+        running: *mut u32,
+        running_count: usize,
+        work: *mut u32,
+        work_count: usize,
+    ) -> ChainAnswer;
 }
 
 /// The linked library.
@@ -99,6 +128,7 @@ pub struct Linked;
 impl Library for Linked {
     fn compose(
         route: u64,
+        block: Option<u64>,
         p: u64,
         n: u64,
         f: &[u32],
@@ -110,8 +140,17 @@ impl Library for Linked {
         let (f, f_count, g, g_count) = (f.as_ptr(), f.len(), g.as_ptr(), g.len());
         let (out_count, work_count) = (out.len(), work.len());
         let (out, work) = (out.as_mut_ptr(), work.as_mut_ptr());
-        answer(unsafe {
-            ruhitapo_compose(route, p, n, f, f_count, g, g_count, out, out_count, work, work_count)
+        answer(match block.map(length) {
+            None => unsafe {
+                ruhitapo_compose(
+                    route, p, n, f, f_count, g, g_count, out, out_count, work, work_count,
+                )
+            },
+            Some(block) => unsafe {
+                ruhitapo_compose_blocks(
+                    route, block, p, n, f, f_count, g, g_count, out, out_count, work, work_count,
+                )
+            },
         })
     }
 
@@ -130,6 +169,7 @@ impl Library for Linked {
     fn cycle(
         record: Chain,
         route: u64,
+        block: Option<u64>,
         list: &[u32],
         running: &mut [u32],
         work: &mut [u32],
@@ -138,10 +178,17 @@ impl Library for Linked {
         let (route, list, list_count) = (word(route), list.as_ptr(), list.len());
         let (count, work_count) = (running.len(), work.len());
         let (running, work) = (running.as_mut_ptr(), work.as_mut_ptr());
-        chain(unsafe {
-            ruhitapo_cycle_numbers(
-                p, n, done, route, list, list_count, running, count, work, work_count,
-            )
+        chain(match block.map(length) {
+            None => unsafe {
+                ruhitapo_cycle_numbers(
+                    p, n, done, route, list, list_count, running, count, work, work_count,
+                )
+            },
+            Some(block) => unsafe {
+                ruhitapo_cycle_blocks_numbers(
+                    p, n, done, route, block, list, list_count, running, count, work, work_count,
+                )
+            },
         })
     }
 
@@ -161,6 +208,10 @@ impl Library for Linked {
 
 fn word(number: u64) -> u32 {
     u32::try_from(number).expect("a number of 32 bits")
+}
+
+fn length(block: u64) -> usize {
+    usize::try_from(block).expect("a length of 64 bits")
 }
 
 fn answer(found: CallAnswer) -> Answer {

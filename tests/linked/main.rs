@@ -24,12 +24,12 @@ mod streams;
 mod traps;
 
 use checks::support::{run, Check};
-use checks::{calls, equality, job, primes, render, reversion, settled};
+use checks::{blocks, calls, equality, job, primes, render, reversion, settled};
 use compare::Both;
 use program::Built;
 use std::process::ExitCode;
 
-const GROUPS: [(&str, Check); 60] = [
+const GROUPS: [(&str, Check); 69] = [
     ("settled examples", settled::examples::<Both>),
     ("edges", settled::edges::<Both>),
     ("every small shape", shapes::every_small),
@@ -37,6 +37,7 @@ const GROUPS: [(&str, Check); 60] = [
     ("order 4096, short outer lists", shapes::largest_order),
     ("outer lists of 4096 places, small orders", shapes::longest_outer_list),
     ("order 4096 and 4096 places, route 4", shapes::largest_of_both),
+    ("order 4096 and 4096 places, several block lengths", shapes::largest_in_blocks),
     ("primes above 2^31", shapes::large_primes),
     ("primes above 2^31, largest coefficients", shapes::largest_coefficients),
     ("primes above 2^31, largest coefficients, large orders", shapes::largest_coefficients_closed),
@@ -55,6 +56,10 @@ const GROUPS: [(&str, Check); 60] = [
     ("trap: constant term counted in v", traps::constant_term_counted),
     ("refusals and buffers", calls::refusals_and_buffers::<Both>),
     ("precedence of refusals", calls::precedence::<Both>),
+    ("block length: every length by every route", blocks::every_length::<Both>),
+    ("block length: beside other reasons", blocks::beside_other_reasons::<Both>),
+    ("block length: every count of outer coefficients", blocks::every_count::<Both>),
+    ("block length: calls without one", blocks::without_length::<Both>),
     ("edges: compose", refusals::compose),
     ("edges: reverse", refusals::reverse),
     ("edges: open", refusals::open),
@@ -69,10 +74,13 @@ const GROUPS: [(&str, Check); 60] = [
     ("reverse: published toy example", published::toy_example),
     ("reverse: published binomial case", published::binomial_case),
     ("chain: composition of all cycles", checks::chain::composition::<Both>),
+    ("chain: changing block lengths", checks::chain::changing_lengths::<Both>),
     ("chain: larger orders", chain::larger_orders),
     ("chain: order 4096", chain::largest_order),
     ("equality: random pairs", equality::random_pairs::<Both>),
+    ("equality: random block lengths", equality::random_lengths::<Both>),
     ("equality: exhaustive pairs", equality::exhaustive_pairs::<Both>),
+    ("equality: exhaustive block lengths", equality::exhaustive_lengths::<Both>),
     ("table", primes::table::<Both>),
     ("edges of the table and of rendering", settled::other_edges::<Both>),
     ("rendering", render::render::<Both>),
@@ -81,6 +89,7 @@ const GROUPS: [(&str, Check); 60] = [
     ("program: whole case", settled::whole_case::<Built>),
     ("program: job files", job::job::<Built>),
     ("program: primes above 2^31", job::large_primes::<Built>),
+    ("program: block length 4", job::block_length::<Built>),
     ("program: every beginning of a file", job::beginnings::<Built>),
     ("program: overlapping lists", job::overlaps::<Built>),
     ("program: offsets far past the file", job::far_offsets::<Built>),

@@ -1,6 +1,7 @@
 //! Each refusal of each call at both sides of its edge, against the second implementation. What
 //! comes back with several reasons is checked by `checks::calls`.
 
+use crate::checks::broken::UNFIT_BLOCKS;
 use crate::checks::library::{Call, Input};
 use crate::checks::support::{seen, Tally};
 use crate::compare::same;
@@ -110,6 +111,23 @@ impl Edges<'_> {
         }
     }
 
+    /// Number 15, by route 2 alone.
+    fn of_blocks(&mut self) {
+        for route in 0..=5 {
+            let (unknown, ranged) = ([0, 5].contains(&route), route == 2);
+            for (block, unfit) in
+                [(1, false), (64, false)].into_iter().chain(UNFIT_BLOCKS.map(|block| (block, true)))
+            {
+                let number = match (unknown, ranged && unfit) {
+                    (true, _) => 1,
+                    (_, true) => 15,
+                    _ => 0,
+                };
+                self.at(number, |input| (input.route, input.block) = (route, Some(block)));
+            }
+        }
+    }
+
     /// Number 4 or 5, of this list.
     fn of_length(&mut self, number: u32, list: Selected) {
         for (places, answered) in [(4095, 0), (4096, 0), (4097, number), (8192, number)] {
@@ -174,6 +192,7 @@ pub fn compose(tally: &mut Tally, random: &mut Random) {
     let mut edges = around(tally, random, Call::Compose, lists);
     edges.of_all_calls();
     edges.of_routes();
+    edges.of_blocks();
     edges.of_length(4, outer);
     edges.of_length(5, inner);
     edges.of_work();
@@ -230,6 +249,7 @@ pub fn cycle(tally: &mut Tally, random: &mut Random) {
     let mut edges = around(tally, random, Call::Cycle, lists);
     edges.of_all_calls();
     edges.of_routes();
+    edges.of_blocks();
     edges.of_length(5, inner);
     edges.of_work();
     edges.of_coefficients(inner, 10);

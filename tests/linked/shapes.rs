@@ -1,12 +1,12 @@
 //! Every route on shapes of every kind.
 
 use crate::checks::support::{weight, Case, Tally};
-use crate::compare::composed;
+use crate::compare::{composed, composed_in_blocks};
 use crate::plain::field;
 use crate::plain::primes::{LARGEST_PRIME, LARGE_PRIMES};
 use crate::plain::products::places;
 use crate::plain::random::Random;
-use crate::plain::routes::{self, by_number};
+use crate::plain::routes::{self, by_number, BLOCK_LENGTH};
 use crate::plain::substitution::substitution;
 
 /// The inner lists of one order: without and with a constant term, empty, longer than n.
@@ -26,7 +26,7 @@ fn all_routes(tally: &mut Tally, random: &mut Random, case: &Case) {
     let Case { p, n, f, g } = case;
     let value = substitution(*p, f, g, *n);
     for number in 1..=4 {
-        let (_, counted) = by_number(number, *p, f, g, *n);
+        let (_, counted) = by_number(number, *p, f, g, *n, BLOCK_LENGTH);
         composed(tally, random, number, case, &value, counted);
     }
 }
@@ -49,9 +49,11 @@ pub fn random(tally: &mut Tally, random: &mut Random) {
         let case = Case::draw(random, 300);
         let (value, _) = routes::horner(case.p, &case.f, &case.g, case.n);
         for number in 1..=4 {
-            let (_, counted) = by_number(number, case.p, &case.f, &case.g, case.n);
+            let (_, counted) = by_number(number, case.p, &case.f, &case.g, case.n, BLOCK_LENGTH);
             composed(tally, random, number, &case, &value, counted);
         }
+        let block = random.block();
+        composed_in_blocks(tally, random, block, &case, &value);
     }
 }
 
@@ -99,6 +101,17 @@ pub fn largest_of_both(tally: &mut Tally, random: &mut Random) {
     for p in [3, LARGEST_PRIME] {
         let (f, g) = (random.list(p, 4096), sparse(random, p));
         by_rule(tally, random, &Case { p, n: 4096, f, g }, &[4]);
+    }
+}
+
+/// Order 4096 and lists of 4096 random places by route 2, at several block lengths. Route 4 of the
+/// second implementation, the quickest there, says the value.
+pub fn largest_in_blocks(tally: &mut Tally, random: &mut Random) {
+    let (p, n) = (LARGEST_PRIME, 4096);
+    let case = Case { p, n, f: random.list(p, n), g: random.list(p, n) };
+    let (value, _) = routes::kinoshita_li(p, &case.f, &case.g, n);
+    for block in [1, 2, 3, 5, 64] {
+        composed_in_blocks(tally, random, block, &case, &value);
     }
 }
 

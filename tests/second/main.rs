@@ -7,10 +7,11 @@ mod plain;
 
 use checks::library::Plain;
 use checks::support::{run, Check};
-use checks::{calls, chain, equality, job, primes, render, reversion, routes, settled, traps};
+use checks::{blocks, calls, chain, equality, job, primes, render, reversion, routes, settled};
+use checks::{traps, wrong};
 use std::process::ExitCode;
 
-const GROUPS: [(&str, Check); 31] = [
+const GROUPS: [(&str, Check); 40] = [
     ("settled examples", settled::examples::<Plain>),
     ("whole case", settled::whole_case::<Plain>),
     ("edges", settled::edges::<Plain>),
@@ -20,7 +21,9 @@ const GROUPS: [(&str, Check); 31] = [
     ("routes: larger cases", routes::larger_cases),
     ("equality: powers of (z - c)", equality::taylor),
     ("equality: random pairs", equality::random_pairs::<Plain>),
+    ("equality: random block lengths", equality::random_lengths::<Plain>),
     ("equality: exhaustive pairs", equality::exhaustive_pairs::<Plain>),
+    ("equality: exhaustive block lengths", equality::exhaustive_lengths::<Plain>),
     ("reversion: both sides", reversion::both_sides::<Plain>),
     ("reversion: exhaustive", reversion::exhaustive::<Plain>),
     ("trap: Lagrange's formula", traps::lagrange::<Plain>),
@@ -31,7 +34,13 @@ const GROUPS: [(&str, Check); 31] = [
     ("refusals and buffers", calls::refusals_and_buffers::<Plain>),
     ("precedence of refusals", calls::precedence::<Plain>),
     ("order of the tests", calls::order_of_tests),
+    ("block length: every length by every route", blocks::every_length::<Plain>),
+    ("block length: beside other reasons", blocks::beside_other_reasons::<Plain>),
+    ("block length: every count of outer coefficients", blocks::every_count::<Plain>),
+    ("block length: calls without one", blocks::without_length::<Plain>),
+    ("block length: misread", wrong::block_lengths),
     ("chain: composition of all cycles", chain::composition::<Plain>),
+    ("chain: changing block lengths", chain::changing_lengths::<Plain>),
     ("primality", primes::primality),
     ("table", primes::table::<Plain>),
     ("rendering", render::render::<Plain>),
@@ -39,6 +48,7 @@ const GROUPS: [(&str, Check); 31] = [
     ("rendering: the longest text", render::longest::<Plain>),
     ("job file", job::job::<Plain>),
     ("job file: primes above 2^31", job::large_primes::<Plain>),
+    ("job file: block length 4", job::block_length::<Plain>),
     ("job file: every beginning", job::beginnings::<Plain>),
     ("job file: overlapping lists", job::overlaps::<Plain>),
     ("job file: offsets far past the file", job::far_offsets::<Plain>),

@@ -44,7 +44,7 @@ fn join(p: u32, n: usize, m: usize, w: &mut [u32]) -> Weight
     let value = n + m;
     let next = value + n;
     let places = product::multiply_add(p, n, w, value, 0, next);
-    buffer::move_down(w, next, value, n);
+    buffer::copy_part(w, next, value, n);
     places
 }
 
@@ -73,7 +73,7 @@ fn join_parts(p: u32, n: usize, m: usize, w: &mut [u32]) -> Weight
     prepare(p, n, m, w);
     let mut j = parts::top_part(p, m);
     let mut weight = part_value(p, n, m, j, w);
-    buffer::move_down(w, value + n, value, n);
+    buffer::copy_part(w, value + n, value, n);
     while 0 < j {
         j -= 1;
         let composed = part_value(p, n, m, j, w);
@@ -105,6 +105,6 @@ pub fn bernstein(p: u32, n: usize, f: &[u32], g: &[u32], w: &mut [u32]) -> Weigh
     route::put(g, n, w, 0);
     route::put(f, m, w, n);
     let weight = level(p, n, m, w);
-    buffer::move_down(w, n + m, 0, n);
+    buffer::copy_part(w, n + m, 0, n);
     weight
 }

@@ -129,5 +129,5 @@ pub fn window(r: usize, w: &mut [u32], a: Rows, low: usize)
     requires { ⌜ (low ≤ a .count) × (a .at + a .count * r ≤ length (now w)) ⌝ }
     ensures { λ _. ⌜ now (w .exit) ≡ sets (now (w .entry)) (a .at) (plane r (a .count - low) (window low (held r (now (w .entry)) a))) ⌝ }
 {
-    buffer::move_down(w, a.at + low * r, a.at, (a.count - low) * r);
+    buffer::copy_part(w, a.at + low * r, a.at, (a.count - low) * r);
 }

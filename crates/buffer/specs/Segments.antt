@@ -2,6 +2,7 @@
 --
 --   segment w a n         the n places of w from place a on
 --   Apart w a m t n       the m places from a on and the n places from t on lie inside w, and have none in common
+--   CopyOperands          what `copy_part` requires; copy-down, it holds where the place that is copied to is not above
 --   coefficient-segment   a place of a segment
 --   length-segment        its length
 --   segment-segment       a segment of a segment
@@ -27,6 +28,14 @@ pub record Apart (w : List ℕ) (a m t n : ℕ) : Type 0 where
   pub source : a + m ≤ length w
   pub target : t + n ≤ length w
   pub apart : (a + m ≤ t) ⊎ (t + n ≤ a)
+
+pub record CopyOperands (from to count : ℕ) (w : List ℕ) : Type 0 where
+  pub source : from + count ≤ length w
+  pub target : to + count ≤ length w
+  pub order : (to ≤ from) ⊎ (from + count ≤ to)
+
+pub copy-down : {from to count : ℕ} {w : List ℕ} → to ≤ from → from + count ≤ length w → CopyOperands from to count w
+copy-down down inside = record { source = inside; target = omega arith; order = inl down }
 
 pub coefficient-segment : (w : List ℕ) (a n i : ℕ) → i < n → coefficient (segment w a n) i ≡ coefficient w (a + i)
 unfolding coefficient

@@ -1,11 +1,13 @@
-// Buffers of 32-bit numbers: clearing, copying, moving, and the test that every number is below a bound.
+// Buffers of 32-bit numbers: clearing, copying, the test that every number is below a bound, and the place of a running value.
 ghost use mathlib.Core.Path.{_≡_};
 ghost use mathlib.Core.List.{_++_};
-ghost use Prim.Native.Nat.{_+_, _≤_};
+ghost use Prim.Native.Nat.{_+_, _*_, _^_, _<_, _≤_};
 ghost use lib.ListN.{length, take, drop, replicate};
 ghost use lib.Seq.{sets};
 ghost use Rattle.definition.specs.Answer.{cleared};
 ghost use Rattle.definition.specs.Refusal.{exceeds};
+ghost use Rattle.buffer.specs.Segments.{CopyOperands};
+ghost use Rattle.buffer.specs.Turns.{runningPlace};
 
 // Sets the first `k` places to zero.
 pub fn clear(w: &mut [u32], k: usize)
@@ -40,9 +42,9 @@ pub fn copy(src: &[u32], dst: &mut [u32])
     }
 }
 
-// Writes the `count` places from `from` on at place `to`, which is not above `from`; the two parts may overlap.
-pub fn move_down(w: &mut [u32], from: usize, to: usize, count: usize)
-    requires { ⌜ (to ≤ from) × (from + count ≤ length (now w)) ⌝ }
+// Writes the `count` places from `from` on at place `to`. The two parts may overlap where `to` is not above `from`.
+pub fn copy_part(w: &mut [u32], from: usize, to: usize, count: usize)
+    requires { ⌜ CopyOperands from to count (now w) ⌝ }
     ensures { λ r. ⌜ now (w .exit) ≡ sets (now (w .entry)) to (take count (drop from (now (w .entry)))) ⌝ }
 {
     let mut i = 0;
@@ -64,4 +66,12 @@ pub fn exceeds(l: &[u32], p: u32) -> bool
         i += 1;
     }
     false
+}
+
+// The place of a running value while i steps are left: t or t + n by turns, and t in the end.
+pub fn running_place(n: usize, t: usize, i: usize) -> usize
+    requires { ⌜ t + 2 * n < 2 ^ 64 ⌝ }
+    ensures { λ r. ⌜ r ≡ runningPlace n t i ⌝ }
+{
+    t + i % 2 * n
 }

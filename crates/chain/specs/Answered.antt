@@ -62,17 +62,17 @@ module _ {p n : ℕ} (s : List ℕ) {number : ℕ} (tested : number ≡ openRefu
     running = written ∙ ap identity size ∙ sym (kept-accepted (identity n) s refl);
   }
 
-pub bounds-lent : {route work : ℕ} {chain : Chain} {c s : List ℕ} → CycleBounds route chain c s work
+pub bounds-lent : {route b work : ℕ} {chain : Chain} {c s : List ℕ} → CycleBounds route b chain c s work
     → Lent (chain .modulus) (chain .order) (length c) work
-bounds-lent b = field-lent (b .field) (b .outer) (omega (arith, b .enough))
+bounds-lent bounds = field-lent (bounds .field) (bounds .outer) (omega (arith, bounds .enough))
 
 next-refused : (number : ℕ) (chain : Chain) → number ≢ 0 → nextChain number chain ≡ chain
 unfolding nextChain
 next-refused zero chain refused = absurd (refused refl)
 next-refused (suc number) chain refused = refl
 
-module _ {route : ℕ} {chain : Chain} (c s work : List ℕ) {number : ℕ} (tested : number ≡ cycleRefusal route chain c s (length work)) where
-  pub cycle-refused : number ≢ 0 → Cycle route chain c s s work work number 0 chain
+module _ {route b : ℕ} {chain : Chain} (c s work : List ℕ) {number : ℕ} (tested : number ≡ cycleRefusal route b chain c s (length work)) where
+  pub cycle-refused : number ≢ 0 → Cycle route b chain c s s work work number 0 chain
   cycle-refused refused = record {
     refusal = tested;
     weighs = sym (answered-refused number _ refused);
@@ -82,9 +82,9 @@ module _ {route : ℕ} {chain : Chain} (c s work : List ℕ) {number : ℕ} (tes
   }
 
   pub cycle-accepted : {s′ then work′ : List ℕ} {places result weighed : ℕ} → number ≡ 0 → length s ≡ chain .order
-      → Route (chain .modulus) (chain .order) c s (weight route (chain .modulus) (chain .order) (length c)) work then result → weighed ≡ result
+      → Route (chain .modulus) (chain .order) c s (weight route b (chain .modulus) (chain .order) (length c)) work then result → weighed ≡ result
       → places ≡ cycleWork (chain .order) (length c) → Finished places then work′ s s′
-      → Cycle route chain c s s′ work work′ 0 weighed (record { modulus = chain .modulus; order = chain .order; done = chain .done + 1 })
+      → Cycle route b chain c s s′ work work′ 0 weighed (record { modulus = chain .modulus; order = chain .order; done = chain .done + 1 })
   unfolding nextChain
   cycle-accepted accepted size run read counts finish =
       let finished = route-finished run (omega (arith, counts)) size finish in

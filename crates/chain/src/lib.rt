@@ -5,6 +5,7 @@ ghost use mathlib.Core.Path.{_≡_};
 ghost use lib.ListN.{length};
 ghost use Rattle.chain.specs.Record.{recorded};
 ghost use Rattle.definition.specs.Calls.{Cycle, Open};
+ghost use Rattle.definition.specs.Ranged.{blockLength};
 ghost use Rattle.definition.specs.Reversion.{identity};
 
 // A chain record.
@@ -71,20 +72,21 @@ impl Chain {
         }
     }
 
-    // A cycle: the running series S becomes C(S) modulo x^n by the route named, C being the list.
-    pub fn cycle(
+    // A cycle: the running series S becomes C(S) modulo x^n by the route named, C being the list. Route 2 takes blocks of b places.
+    pub fn cycle_blocks(
         mut self,
         route: u32,
+        b: usize,
         list: &[u32],
         running: &mut [u32],
         work: &mut [u32],
     ) -> Cycled
-        ensures { λ r. ⌜ Cycle route (recorded self) (now (list .entry)) (now (running .entry)) (now (running .exit))
+        ensures { λ r. ⌜ Cycle route b (recorded self) (now (list .entry)) (now (running .entry)) (now (running .exit))
             (now (work .entry)) (now (work .exit)) (r .number) (r .weight) (recorded (r .chain)) ⌝ }
     {
         let p = self.modulus;
         let n = self.order;
-        let number = refusal::cycle(route, p, n, self.done, list, running, work.len());
+        let number = refusal::cycle(route, b, p, n, self.done, list, running, work.len());
         if number != 0 {
             return Cycled {
                 number: number,
@@ -92,7 +94,7 @@ impl Chain {
                 chain: self,
             };
         }
-        let products: Weight = compose::run(route, p, n, list, running, work);
+        let products: Weight = compose::run(route, b, p, n, list, running, work);
         let weight = products.value();
         let places = refusal::cycle_places(n, list.len());
         route::finish(work, running, places);
@@ -102,5 +104,13 @@ impl Chain {
             weight: weight,
             chain: self,
         }
+    }
+
+    // The same, in blocks of the length where none is named.
+    pub fn cycle(self, route: u32, list: &[u32], running: &mut [u32], work: &mut [u32]) -> Cycled
+        ensures { λ r. ⌜ Cycle route blockLength (recorded self) (now (list .entry)) (now (running .entry)) (now (running .exit))
+            (now (work .entry)) (now (work .exit)) (r .number) (r .weight) (recorded (r .chain)) ⌝ }
+    {
+        self.cycle_blocks(route, compose::BLOCK_LENGTH, list, running, work)
     }
 }

@@ -18,11 +18,11 @@ use Rattle.refusal.specs.Answers.{answered-accepted, answered-refused, kept-acc
 use Rattle.refusal.specs.Bounds.{ComposeBounds, field-lent}
 use Rattle.route.specs.Contract.{Finished, Lent, Route, route-finished}
 
-pub bounds-lent : {route p n places work : ℕ} {f g : List ℕ} → ComposeBounds route p n f g places work → Lent p n (length f) work
-bounds-lent b = field-lent (b .field) (b .outer) (b .enough)
+pub bounds-lent : {route b p n places work : ℕ} {f g : List ℕ} → ComposeBounds route b p n f g places work → Lent p n (length f) work
+bounds-lent bounds = field-lent (bounds .field) (bounds .outer) (bounds .enough)
 
-module _ {route p n : ℕ} (f g out work : List ℕ) {number : ℕ} (tested : number ≡ composeRefusal route p n f g (length out) (length work)) where
-  pub compose-refused : number ≢ 0 → Compose route p n f g out out work work number 0
+module _ {route b p n : ℕ} (f g out work : List ℕ) {number : ℕ} (tested : number ≡ composeRefusal route b p n f g (length out) (length work)) where
+  pub compose-refused : number ≢ 0 → Compose route b p n f g out out work work number 0
   compose-refused refused = record {
     refusal = tested;
     weighs = sym (answered-refused number _ refused);
@@ -31,8 +31,8 @@ module _ {route p n : ℕ} (f g out work : List ℕ) {number : ℕ} (tested : nu
   }
 
   pub compose-accepted : {out′ then work′ : List ℕ} {places result weighed : ℕ} → number ≡ 0 → length out ≡ n
-      → Route p n f g (weight route p n (length f)) work then result → weighed ≡ result
-      → places ≡ composeWork n (length f) → Finished places then work′ out out′ → Compose route p n f g out out′ work work′ 0 weighed
+      → Route p n f g (weight route b p n (length f)) work then result → weighed ≡ result
+      → places ≡ composeWork n (length f) → Finished places then work′ out out′ → Compose route b p n f g out out′ work work′ 0 weighed
   compose-accepted accepted size run read counted finish =
       let finished = route-finished run (le-of-eq (sym counted)) size finish in
       record {

@@ -1,5 +1,5 @@
 -- What each call promises, for every input: the number that it returns, what it returns beside it, and what each buffer lent to it holds
--- afterwards. A name with a prime (′) is a value after the call. p is the modulus, n the order.
+-- afterwards. A name with a prime (′) is a value after the call. p is the modulus, n the order, b the block length of route 2.
 --
 --   Compose   compose: the outer list f, the inner list g, the output, the work buffer
 --   Reverse   reverse: the series g, the output, the work buffer
@@ -32,9 +32,9 @@ use Rattle.definition.specs.Substitution.{composed}
 use Rattle.definition.specs.Text.{rendered}
 use Rattle.definition.specs.Weight.{weight}
 
-pub record Compose (route p n : ℕ) (f g out out′ work work′ : List ℕ) (number weight′ : ℕ) : Type 0 where
-  pub refusal : number ≡ composeRefusal route p n f g (length out) (length work)
-  pub weighs : weight′ ≡ answered number (weight route p n (length f))
+pub record Compose (route b p n : ℕ) (f g out out′ work work′ : List ℕ) (number weight′ : ℕ) : Type 0 where
+  pub refusal : number ≡ composeRefusal route b p n f g (length out) (length work)
+  pub weighs : weight′ ≡ answered number (weight route b p n (length f))
   pub output : out′ ≡ kept number (composed p n f g) out
   pub clears : work′ ≡ kept number (cleared (composeWork n (length f)) work) work
 
@@ -55,9 +55,9 @@ pub record Open (p n : ℕ) (s s′ : List ℕ) (number weight′ : ℕ) (chain�
   pub records : chain′ ≡ openedChain number p n
   pub running : s′ ≡ kept number (identity n) s
 
-pub record Cycle (route : ℕ) (chain : Chain) (c s s′ work work′ : List ℕ) (number weight′ : ℕ) (chain′ : Chain) : Type 0 where
-  pub refusal : number ≡ cycleRefusal route chain c s (length work)
-  pub weighs : weight′ ≡ answered number (weight route (chain .modulus) (chain .order) (length c))
+pub record Cycle (route b : ℕ) (chain : Chain) (c s s′ work work′ : List ℕ) (number weight′ : ℕ) (chain′ : Chain) : Type 0 where
+  pub refusal : number ≡ cycleRefusal route b chain c s (length work)
+  pub weighs : weight′ ≡ answered number (weight route b (chain .modulus) (chain .order) (length c))
   pub records : chain′ ≡ nextChain number chain
   pub running : s′ ≡ kept number (composed (chain .modulus) (chain .order) c s) s
   pub clears : work′ ≡ kept number (cleared (cycleWork (chain .order) (length c)) work) work

@@ -18,13 +18,13 @@ use Rattle.definition.specs.Refusal.{exceeds}
 use Rattle.definition.specs.Reversion.{identity}
 use Rattle.definition.specs.Substitution.{composed}
 
-pub compose-determined : {route p n number₁ number₂ weight₁ weight₂ : ℕ} {f g out out₁ out₂ work work₁ work₂ : List ℕ}
-    → Compose route p n f g out out₁ work work₁ number₁ weight₁
-    → Compose route p n f g out out₂ work work₂ number₂ weight₂
+pub compose-determined : {route b p n number₁ number₂ weight₁ weight₂ : ℕ} {f g out out₁ out₂ work work₁ work₂ : List ℕ}
+    → Compose route b p n f g out out₁ work work₁ number₁ weight₁
+    → Compose route b p n f g out out₂ work work₂ number₂ weight₂
     → (number₁ ≡ number₂) × ((weight₁ ≡ weight₂) × ((out₁ ≡ out₂) × (work₁ ≡ work₂)))
-compose-determined a b =
-    let e = a .refusal ∙ sym (b .refusal) in
-    (e, (a .weighs ∙ rw e (sym (b .weighs)), (a .output ∙ rw e (sym (b .output)), a .clears ∙ rw e (sym (b .clears)))))
+compose-determined a d =
+    let e = a .refusal ∙ sym (d .refusal) in
+    (e, (a .weighs ∙ rw e (sym (d .weighs)), (a .output ∙ rw e (sym (d .output)), a .clears ∙ rw e (sym (d .clears)))))
 
 pub reverse-determined : {p n number₁ number₂ weight₁ weight₂ : ℕ} {g out out₁ out₂ work work₁ work₂ : List ℕ}
     → Reverse p n g out out₁ work work₁ number₁ weight₁
@@ -60,16 +60,16 @@ open-determined a b =
     let e = a .refusal ∙ sym (b .refusal) in
     (e, (a .weighs ∙ sym (b .weighs), (a .records ∙ rw e (sym (b .records)), a .running ∙ rw e (sym (b .running)))))
 
-pub cycle-determined : {route number₁ number₂ weight₁ weight₂ : ℕ} {chain chain₁ chain₂ : Chain} {c s s₁ s₂ work work₁ work₂ : List ℕ}
-    → Cycle route chain c s s₁ work work₁ number₁ weight₁ chain₁
-    → Cycle route chain c s s₂ work work₂ number₂ weight₂ chain₂
+pub cycle-determined : {route b number₁ number₂ weight₁ weight₂ : ℕ} {chain chain₁ chain₂ : Chain} {c s s₁ s₂ work work₁ work₂ : List ℕ}
+    → Cycle route b chain c s s₁ work work₁ number₁ weight₁ chain₁
+    → Cycle route b chain c s s₂ work work₂ number₂ weight₂ chain₂
     → (number₁ ≡ number₂) × ((weight₁ ≡ weight₂) × ((chain₁ ≡ chain₂) × ((s₁ ≡ s₂) × (work₁ ≡ work₂))))
-cycle-determined a b =
-    let e = a .refusal ∙ sym (b .refusal) in (
+cycle-determined a d =
+    let e = a .refusal ∙ sym (d .refusal) in (
       e,
       (
-        a .weighs ∙ rw e (sym (b .weighs)),
-        (a .records ∙ rw e (sym (b .records)), (a .running ∙ rw e (sym (b .running)), a .clears ∙ rw e (sym (b .clears)))),
+        a .weighs ∙ rw e (sym (d .weighs)),
+        (a .records ∙ rw e (sym (d .records)), (a .running ∙ rw e (sym (d .running)), a .clears ∙ rw e (sym (d .clears)))),
       ),
     )
 

@@ -1,5 +1,5 @@
 -- The job file: seven 32-bit little-endian numbers (route, modulus, order, outer count, outer offset, inner count, inner offset) and the
--- lists at their offsets, bytes from the file's start.
+-- lists at their offsets, bytes from the file's start. A job has no block length of its own.
 --
 --   word file i             the number in the four bytes from place i on
 --   field file k            number k of the header
@@ -13,6 +13,7 @@ use lib.Dec.{leb, ltb, eqb}
 use lib.ListN.{length}
 use Rattle.definition.specs.Lists.{tabulate, coefficient}
 use Rattle.definition.specs.Substitution.{composed}
+use Rattle.definition.specs.Ranged.{blockLength}
 use Rattle.definition.specs.Weight.{weight}
 use Rattle.definition.specs.Refusal.{composeRefusal, composeWork}
 use Rattle.definition.specs.Text.{rendered}
@@ -79,7 +80,7 @@ cutShort file =
 -- what compose returns for the job, with an output of exactly n places and enough work
 unfoldable pub composeNumber : List ℕ → ℕ
 composeNumber file =
-    composeRefusal (route file) (modulus file) (order file) (outer file) (inner file) (order file)
+    composeRefusal (route file) blockLength (modulus file) (order file) (outer file) (inner file) (order file)
     (composeWork (order file) (field file 3))
 
 unfoldable pub jobRefusal : List ℕ → ℕ
@@ -87,5 +88,5 @@ jobRefusal file = cond (tooLarge file) 12 (cond (cutShort file) 13 (composeNumbe
 
 unfoldable pub jobText : List ℕ → List ℕ
 jobText file =
-    rendered (jobRefusal file) (order file) (weight (route file) (modulus file) (order file) (field file 3))
+    rendered (jobRefusal file) (order file) (weight (route file) blockLength (modulus file) (order file) (field file 3))
     (composed (modulus file) (order file) (outer file) (inner file))

@@ -1,6 +1,6 @@
--- Route 2, ranged Horner (document 004, Algorithm 2), over the block length b. The product calls it with b = 4.
+-- Route 2, ranged Horner (document 004, Algorithm 2), over the block length b, which a caller chooses.
 --
---   blockLength          4
+--   blockLength          the block length where none is given: 4
 --   block b j f          the part of f that begins at place b j, at most b long
 --   cutPower p n g e     g^e modulo p, cut to n places
 --   joined p n s t u     even + odd × G, cut to n places: two neighbours s and t become s + t × u
@@ -10,7 +10,7 @@ use lib.ListN.{take, drop}
 use Rattle.definition.specs.Lists.{tabulate, coefficient}
 use Rattle.definition.specs.Substitution.{cutProduct, cutSum, power}
 
-unfoldable pub blockLength : ℕ
+abbrev pub blockLength : ℕ
 blockLength = 4
 
 unfoldable pub block : ℕ → ℕ → List ℕ → List ℕ

@@ -1,5 +1,5 @@
 -- The number that a call returns: 0 where it is accepted, else the number of the first test that fires. Each call is the list of its tests,
--- in the order in which 01 makes them. Lists come as lists of numbers; of an output or a work buffer only the count of places is read.
+-- in the order in which they are made: 1 to 11 ascending, as in 01, and a number of a request straight after the one that it names. Lists come as lists of numbers; of an output or a work buffer only the count of places is read.
 --
 --   first tests          the number of the first test that fires, or 0
 --   composeRefusal, reverseRefusal, openRefusal, cycleRefusal, tableRefusal, renderRefusal   the number of each call
@@ -31,6 +31,10 @@ first (t ∷ ts) = cond (t .fires) (t .number) (first ts)
 abbrev pub limit : ℕ
 limit = 4096
 
+-- the longest block of route 2
+abbrev pub longestBlock : ℕ
+longestBlock = 64
+
 -- the most cycles of a chain
 abbrev pub mostCycles : ℕ
 mostCycles = 64
@@ -47,6 +51,10 @@ cycleWork n m = workPlaces 144 n m
 -- 1: the route is not 1, 2, 3 or 4
 unfoldable pub badRoute : ℕ → Bool
 badRoute route = eqb route 0 || ltb 4 route
+
+-- 15: the route is 2, and its block length b is 0 or above the longest
+unfoldable pub badBlock : ℕ → ℕ → Bool
+badBlock route b = eqb route 2 && (eqb b 0 || ltb longestBlock b)
 
 -- 2: p is not prime, or above the largest modulus
 unfoldable pub badModulus : ℕ → Bool
@@ -77,10 +85,12 @@ irreversible n g = not (eqb (coefficient g 0) 0) || ltb 1 n && eqb (coefficient 
 unfoldable pub hasConstant : List ℕ → Bool
 hasConstant l = not (eqb (coefficient l 0) 0)
 
-unfoldable pub composeRefusal : ℕ → ℕ → ℕ → List ℕ → List ℕ → ℕ → ℕ → ℕ
-composeRefusal route p n f g places work =
+-- b is the block length of route 2
+unfoldable pub composeRefusal : ℕ → ℕ → ℕ → ℕ → List ℕ → List ℕ → ℕ → ℕ → ℕ
+composeRefusal route b p n f g places work =
     first
     (test 1 (badRoute route)
+    ∷ test 15 (badBlock route b)
     ∷ test 2 (badModulus p)
     ∷ test 3 (badOrder n)
     ∷ test 4 (tooLong f)
@@ -105,11 +115,12 @@ reverseRefusal p n g places work =
 unfoldable pub openRefusal : ℕ → ℕ → ℕ → ℕ
 openRefusal p n places = first (test 2 (badModulus p) ∷ test 3 (badOrder n) ∷ test 6 (notPlaces n places) ∷ [])
 
--- a cycle c of a chain whose running series is s
-unfoldable pub cycleRefusal : ℕ → Chain → List ℕ → List ℕ → ℕ → ℕ
-cycleRefusal route chain c s work =
+-- a cycle c of a chain whose running series is s; b is the block length of route 2
+unfoldable pub cycleRefusal : ℕ → ℕ → Chain → List ℕ → List ℕ → ℕ → ℕ
+cycleRefusal route b chain c s work =
     first
     (test 1 (badRoute route)
+    ∷ test 15 (badBlock route b)
     ∷ test 2 (badModulus (chain .modulus))
     ∷ test 3 (badOrder (chain .order))
     ∷ test 5 (tooLong c)

@@ -5,13 +5,12 @@
 --   rangedWeight b n m       route 2
 --   bernsteinWeight p n m    route 3
 --   kinoshitaLiWeight n m    route 4
---   weight route p n m       the weight of the route of that number (01's term route), with blocks of 4 in route 2
+--   weight route b p n m     the weight of the route of that number (01's term route); route 2 alone reads b
 use Prim.Native.Nat.{ℕ, zero, suc, _+_, _-_, _*_, _^_, min}
 use mathlib.Core.Bool.{cond}
 use lib.Dec.{leb, eqb}
 use lib.Count.{ones, leadingZeros}
 use Rattle.definition.specs.Lists.{sum, ceilDiv}
-use Rattle.definition.specs.Ranged.{blockLength}
 use Rattle.definition.specs.Bernstein.{partCount}
 
 -- one product of n places for each coefficient after the top one
@@ -68,7 +67,7 @@ kinoshitaLiLevels (suc levels) m r q d =
 unfoldable pub kinoshitaLiWeight : ℕ → ℕ → ℕ
 kinoshitaLiWeight n m = cond (eqb m 0) 0 (kinoshitaLiLevels (halvings n) m n (min 1 (m - 1)) (m - 1))
 
-unfoldable pub weight : ℕ → ℕ → ℕ → ℕ → ℕ
-weight route p n m =
+unfoldable pub weight : ℕ → ℕ → ℕ → ℕ → ℕ → ℕ
+weight route b p n m =
     cond (eqb route 1) (hornerWeight n m)
-    (cond (eqb route 2) (rangedWeight blockLength n m) (cond (eqb route 3) (bernsteinWeight p n m) (kinoshitaLiWeight n m)))
+    (cond (eqb route 2) (rangedWeight b n m) (cond (eqb route 3) (bernsteinWeight p n m) (kinoshitaLiWeight n m)))

@@ -90,5 +90,5 @@ pub fn divide(p: u32, m: usize, count: usize, w: &mut [u32])
     complement(p, m, count, w, c);
     inverse(p, m, w, c);
     product::multiply(p, m, w, count, v, room);
-    buffer::move_down(w, room, count, m);
+    buffer::copy_part(w, room, count, m);
 }

@@ -27,8 +27,9 @@ use Rattle.definition.specs.Lists.{coefficient, tabulate}
 use Rattle.definition.specs.Refusal.{limit}
 use Rattle.definition.specs.Substitution.{composed, constant, cutProduct}
 use Rattle.definition.specs.Weight.{hornerWeight}
-use Rattle.horner.specs.Steps.{Taken, constant-added, running-apart, running-inside, running-last-place, runningPlace}
+use Rattle.horner.specs.Steps.{Taken, constant-added}
 use Rattle.buffer.specs.Segments.{segment, Apart, apart-length, apart-within}
+use Rattle.buffer.specs.Turns.{running-apart, running-inside, running-last-place, runningPlace}
 use Rattle.product.specs.Single.{Operands, multiplied-value, multiplied-within}
 use Rattle.route.specs.Table.{written-table}
 use Rattle.buffer.specs.Within.{Within, segment-within, within-refl, within-sets, within-trans, within-wider}

@@ -1,17 +1,12 @@
--- The two steps of a turn, what they leave, and where the running value stands.
+-- The two steps of a turn, and what they leave.
 --
 --   Taken                the contract of `take_next`: step (a) leaves `between`, and step (b) then `after`
---   runningPlace n t i   the place of the running value while i coefficients are left: t or t + n by turns, and t in the end
---   running-last-place   in the end it stands at t
---   running-inside       it lies inside the 2 n places from t on
---   running-apart        and apart from where it stands with one coefficient more left
 --   constant-added       c added at the first place of a cut product is the sum with the constant c
 -- Assumes nothing.
-use Prim.Native.Nat.{ℕ, zero, suc, _+_, _*_, _%_, _<_, _≤_}
-use native.Mathlib.Nat.{add-zero, mod-mod, mul-le-mul-right}
+use Prim.Native.Nat.{ℕ, zero, suc, _+_, _%_, _<_}
+use native.Mathlib.Nat.{add-zero, mod-mod}
 use native.Mathlib.Omega.{arith}
 use mathlib.Core.List.{List, [], _∷_}
-use mathlib.Core.Logic.{_⊎_, inl, inr}
 use mathlib.Core.Path.{_≡_, ap, sym, _∙_}
 use lib.ListN.{set, take, drop, length-set}
 use lib.Seq.{drop-set-add, getD-set-other, getD-set-same, take-set-lt}
@@ -26,33 +21,6 @@ pub record Taken (p n c s b t : ℕ) (before after : List ℕ) (result : ℕ) : 
   pub between : List ℕ
   pub multiplied : Multiplied p n s b t before between result
   pub added : after ≡ set between t ((coefficient between t + c) % p)
-
-unfoldable pub runningPlace : ℕ → ℕ → ℕ → ℕ
-runningPlace n t i = t + i % 2 * n
-
-pub running-last-place : (n t : ℕ) → runningPlace n t 0 ≡ t
-unfolding runningPlace
-running-last-place n t = omega arith
-
-module _ (n t i : ℕ) where
-  pub running-inside : (t ≤ runningPlace n t i) × (runningPlace n t i + n ≤ t + 2 * n)
-  unfolding runningPlace
-  running-inside =
-      let few : i % 2 * n ≤ 1 * n = mul-le-mul-right n (omega arith) in
-      (omega arith, omega arith)
-
-  pub running-apart : (runningPlace n t (suc i) + n ≤ runningPlace n t i) ⊎ (runningPlace n t i + n ≤ runningPlace n t (suc i))
-  unfolding runningPlace
-  running-apart = go (i % 2) (suc i % 2) (omega arith)
-    where
-      go : (r s : ℕ) → r + s ≡ 1 → (t + s * n + n ≤ t + r * n) ⊎ (t + r * n + n ≤ t + s * n)
-      go zero s e =
-          let one : s ≡ 1 = omega arith in
-          inr (rw one (omega arith))
-      go (suc r) s e =
-          let one : r ≡ 0 = omega arith in
-          let none : s ≡ 0 = omega arith in
-          inl (rw (one, none) (omega arith))
 
 module _ (p n c : ℕ) (a b : List ℕ) (some : 0 < n) where
   -- place k of the product

@@ -1,22 +1,14 @@
 // Route 1, Horner (document 004): from the top coefficient on, multiply by g and add the next. Route 2 takes its blocks this way too.
 use product::Weight;
 ghost use mathlib.Core.Path.{_≡_};
-ghost use Prim.Native.Nat.{_+_, _*_, _%_, _<_, _^_};
+ghost use Prim.Native.Nat.{_+_, _%_, _<_};
 ghost use lib.ListN.{length, set};
 ghost use Rattle.definition.specs.Lists.{coefficient};
 ghost use Rattle.definition.specs.Weight.{hornerWeight};
 ghost use Rattle.horner.specs.Part.{Part, PartOperands};
-ghost use Rattle.horner.specs.Steps.{Taken, runningPlace};
+ghost use Rattle.horner.specs.Steps.{Taken};
 ghost use Rattle.product.specs.Single.{Multiplied, Operands};
 ghost use Rattle.route.specs.Contract.{Lent, Route};
-
-// The place of the running value while i coefficients are left: t or t + n by turns, and t in the end.
-fn running_place(n: usize, t: usize, i: usize) -> usize
-    requires { ⌜ t + 2 * n < 2 ^ 64 ⌝ }
-    ensures { λ r. ⌜ r ≡ runningPlace n t i ⌝ }
-{
-    t + i % 2 * n
-}
 
 // (a) ans := ans g. The n places from t on become S G modulo p, cut to n places, where S and G are the n places from s and from b on.
 fn step_a_multiply(p: u32, n: usize, w: &mut [u32], s: usize, b: usize, t: usize) -> Weight
@@ -52,13 +44,13 @@ pub fn horner_part(p: u32, n: usize, f: &[u32], w: &mut [u32], b: usize, t: usiz
 {
     let mut i = number::excess(f.len(), 1);
     let c = route::place(f, i);
-    let top = running_place(n, t, i);
+    let top = buffer::running_place(n, t, i);
     route::put_constant(c % p, n, w, top);
     let mut weight = Weight::none();
     while 0 < i {
-        let from = running_place(n, t, i);
+        let from = buffer::running_place(n, t, i);
         i -= 1;
-        let to = running_place(n, t, i);
+        let to = buffer::running_place(n, t, i);
         let places = take_next(p, n, f[i], w, from, b, to);
         weight = weight.plus(places);
     }
@@ -73,6 +65,6 @@ pub fn horner(p: u32, n: usize, f: &[u32], g: &[u32], w: &mut [u32]) -> Weight
 {
     route::put(g, n, w, 0);
     let weight = horner_part(p, n, f, w, 0, n);
-    buffer::move_down(w, n, 0, n);
+    buffer::copy_part(w, n, 0, n);
     weight
 }

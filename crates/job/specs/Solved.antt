@@ -19,6 +19,7 @@ use mathlib.Core.Path.{_≡_, refl, sym, ap, _∙_}
 use Rattle.definition.specs.Answer.{answered, kept, overwritten}
 use Rattle.definition.specs.Calls.{Job, Render}
 use Rattle.definition.specs.Job.{cutShort, field, inner, jobRefusal, jobText, modulus, mostPlaces, order, outer, route, tooLarge}
+use Rattle.definition.specs.Ranged.{blockLength}
 use Rattle.definition.specs.Refusal.{badOrder, first, limit, notPlaces, renderRefusal, test}
 use Rattle.definition.specs.Substitution.{composed}
 use Rattle.definition.specs.Text.{rendered}
@@ -32,7 +33,7 @@ use Rattle.text.specs.Lengths.{accepted-length, refused-length}
 pub record Result (file l : List ℕ) (n weight′ : ℕ) : Type 0 where
   pub positive : 0 < n
   pub stated : n ≡ order file
-  pub weighs : weight′ ≡ weight (route file) (modulus file) (order file) (field file 3)
+  pub weighs : weight′ ≡ weight (route file) blockLength (modulus file) (order file) (field file 3)
   pub composes : l ≡ composed (modulus file) (order file) (outer file) (inner file)
 
 pub record Solution (file output : List ℕ) (number n weight′ : ℕ) : Type 0 where
@@ -118,7 +119,7 @@ module _ {file output : List ℕ} {number n weight′ : ℕ} (solution : Solutio
   same-text = go number (solution .refusal) (solution .result)
     where
       go : (r : ℕ) → r ≡ jobRefusal file → (r ≡ 0 → Result file (take n output) n weight′) → rendered r n weight′ (take n output)
-          ≡ rendered (jobRefusal file) (order file) (weight (route file) (modulus file) (order file) (field file 3))
+          ≡ rendered (jobRefusal file) (order file) (weight (route file) blockLength (modulus file) (order file) (field file 3))
           (composed (modulus file) (order file) (outer file) (inner file))
       go zero e result =
           let r = result refl in

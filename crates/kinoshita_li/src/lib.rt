@@ -28,6 +28,6 @@ pub fn kinoshita_li(p: u32, n: usize, f: &[u32], g: &[u32], w: &mut [u32]) -> We
     let places = route::work_places(n, m);
     let q = number::smaller(1, m - 1);
     let weight = fraction(p, n, q, f, g, &mut w[..places]);
-    buffer::move_down(w, (q + 1) * n, 0, n);
+    buffer::copy_part(w, (q + 1) * n, 0, n);
     weight
 }

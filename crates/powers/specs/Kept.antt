@@ -3,19 +3,13 @@
 --
 --   Holds p n b g count w   the first `count` powers stand in w
 --   powersProducts b rounds the products that form g^b, g^(2b), g^(4b) and on, one for each round of joins
---   PowerOperands           what the routines that form them require: the places of the powers, and n after them
---   BasePower               the contract of `fourth_power`: the power g^b
 --   Squares                 the contract of `squares`: from the first power, whatever power it is, the others
 --   Powers                  the contract of `powers`
 --   next-place              the place after n more
---   holds-first             the first power
---   holds-next              one power more, by squaring the last
 --   holds-within            a change after the powers keeps them
---   square-operands         what a squaring requires, where the target lies apart from what is squared
 --   place-bound             the places of the powers fit a word
 --   first-operands          what the first power requires
 --   squares-operands        what each further squaring requires
---   fourth-power            two squarings give g^4
 --   squares-first squares-next   `squares` before the first turn, and one turn
 --   powers-none powers-made   `powers` without a round, and with one or more
 -- Assumes nothing.
@@ -27,40 +21,27 @@ use native.Mathlib.Omega.{arith}
 use mathlib.Core.List.{List}
 use mathlib.Core.Logic.{inl}
 use mathlib.Core.Path.{_≡_, ap, _∙_}
-use lib.Count.{leadingZeros, ones, onesIn}
 use lib.ListN.{length}
 use lib.Seq.{sets}
 use Rattle.algebra.specs.Bridge.{length-cutProduct}
-use Rattle.definition.specs.Ranged.{blockLength, cutPower}
-use Rattle.definition.specs.Refusal.{limit}
 use Rattle.definition.specs.Substitution.{cutProduct}
 use Rattle.definition.specs.Weight.{powerProducts}
-use Rattle.buffer.specs.Segments.{segment, Apart}
-use Rattle.product.specs.Single.{Multiplied, Operands, multiplied-value, multiplied-within}
+use Rattle.buffer.specs.Segments.{Apart, segment}
+use Rattle.product.specs.Single.{Multiplied, Operands, multiplied-within}
 use Rattle.buffer.specs.Within.{Within, segment-sets, segment-within, within-refl, within-sets, within-trans, within-wider}
-use Rattle.powers.specs.Powers.{cut-power, first-power, power-product, power-square}
+use Rattle.powers.specs.Binary.{BasePower, PowerOperands}
+use Rattle.powers.specs.Powers.{IsPower, doubled, power-product}
 
 pub record Holds (p n b : ℕ) (g : List ℕ) (count : ℕ) (w : List ℕ) : Type 0 where
-  pub power : (i : ℕ) → i < count → segment w ((i + 1) * n) n ≡ cutPower p n g (b * 2 ^ i)
+  pub power : (i : ℕ) → i < count → IsPower p n g (b * 2 ^ i) (segment w ((i + 1) * n) n)
 
 unfoldable pub powersProducts : ℕ → ℕ → ℕ
 powersProducts b zero = 0
 powersProducts b (suc rounds) = powerProducts b + rounds
 
-pub record PowerOperands (p n rounds : ℕ) (w : List ℕ) : Type 0 where
-  pub modulus : 0 < p
-  pub order : n ≤ limit
-  pub few : rounds ≤ 12
-  pub room : (rounds + 2) * n ≤ length w
-
-pub record BasePower (p n b : ℕ) (before after : List ℕ) (result : ℕ) : Type 0 where
-  pub within : Within n (2 * n) before after
-  pub value : segment after n n ≡ cutPower p n (segment before 0 n) b
-  pub sum : result ≡ powerProducts b * n
-
 pub record Squares (p n rounds : ℕ) (before after : List ℕ) (result : ℕ) : Type 0 where
   pub within : Within n (rounds * n) before after
-  pub value : (b : ℕ) (g : List ℕ) → segment before n n ≡ cutPower p n g b → Holds p n b g rounds after
+  pub value : (b : ℕ) (g : List ℕ) → IsPower p n g b (segment before n n) → Holds p n b g rounds after
   pub sum : result ≡ (rounds - 1) * n
 
 pub record Powers (p n b rounds : ℕ) (before after : List ℕ) (result : ℕ) : Type 0 where
@@ -75,10 +56,10 @@ next-place n i = rw (add-one, suc-mul)
 places-before : (n i k : ℕ) → i + 1 < k → (i + 1) * n + n ≤ k * n
 places-before n i k below = rw (← suc-mul) (mul-le-mul-right n below)
 
-pub holds-first : {p n b : ℕ} {g w : List ℕ} → segment w n n ≡ cutPower p n g b → Holds p n b g 1 w
+holds-first : {p n b : ℕ} {g w : List ℕ} → IsPower p n g b (segment w n n) → Holds p n b g 1 w
 holds-first {p} {n} {b} {g} {w} value = record { power = at }
   where
-    at : (i : ℕ) → i < 1 → segment w ((i + 1) * n) n ≡ cutPower p n g (b * 2 ^ i)
+    at : (i : ℕ) → i < 1 → IsPower p n g (b * 2 ^ i) (segment w ((i + 1) * n) n)
     at i below =
         let e : i ≡ 0 = omega arith in
         rw (e, mul-one, one-mul) value
@@ -87,13 +68,13 @@ pub holds-within : {p n b : ℕ} {g : List ℕ} {count t m : ℕ} {v w : List �
     → Holds p n b g count v → Holds p n b g count w
 holds-within {n = n} {count} low within holds = record {
   power = λ i below.
-      segment-within within ((i + 1) * n) n (inl (le-trans (places-before n i (count + 1) (omega arith)) low)) ∙ holds .power i below;
+      rw (segment-within within ((i + 1) * n) n (inl (le-trans (places-before n i (count + 1) (omega arith)) low))) (holds .power i below);
 }
 
-pub holds-next : {p n b : ℕ} {g : List ℕ} {i : ℕ} {w : List ℕ} → 0 < p → 0 < i → (i + 2) * n ≤ length w → Holds p n b g i w
+holds-next : {p n b : ℕ} {g : List ℕ} {i : ℕ} {w : List ℕ} → 0 < i → (i + 2) * n ≤ length w → Holds p n b g i w
     → Holds p n b g (i + 1) (sets w ((i + 1) * n) (cutProduct p n (segment w (i * n) n) (segment w (i * n) n)))
-holds-next {i = zero} l some room holds = absurd (omega arith)
-holds-next {p} {n} {b} {g} {i = suc i} {w} l some room holds = record { power = λ k below. at k below (ℕ-discrete k (suc i)) }
+holds-next {i = zero} some room holds = absurd (omega arith)
+holds-next {p} {n} {b} {g} {i = suc i} {w} some room holds = record { power = λ k below. at k below (ℕ-discrete k (suc i)) }
   where
     square : List ℕ
     square = cutProduct p n (segment w (suc i * n) n) (segment w (suc i * n) n)
@@ -109,17 +90,15 @@ holds-next {p} {n} {b} {g} {i = suc i} {w} l some room holds = record { power = 
         holds-within (le-refl ((suc i + 1) * n))
         (within-sets {n = n} w ((suc i + 1) * n) square (le-refl ((suc i + 1) * n)) (rw size (le-refl _))) holds
 
-    next : segment after ((suc i + 1) * n) n ≡ cutPower p n g (b * 2 ^ suc i)
+    next : IsPower p n g (b * 2 ^ suc i) (segment after ((suc i + 1) * n) n)
     next =
-        segment-sets w ((suc i + 1) * n) square n size (le-trans (places-before n (suc i) (suc i + 2) (omega arith)) room)
-        ∙ rw (rw add-one at (holds .power i (omega arith))) (power-square l n g b i)
+        let last = rw add-one at (holds .power i (omega arith)) in
+        rw (segment-sets w ((suc i + 1) * n) square n size (le-trans (places-before n (suc i) (suc i + 2) (omega arith)) room), doubled b i)
+        (power-product last last)
 
-    at : (k : ℕ) → k < suc i + 1 → Dec (k ≡ suc i) → segment after ((k + 1) * n) n ≡ cutPower p n g (b * 2 ^ k)
+    at : (k : ℕ) → k < suc i + 1 → Dec (k ≡ suc i) → IsPower p n g (b * 2 ^ k) (segment after ((k + 1) * n) n)
     at k below (yes last) = rw last next
     at k below (no other) = kept .power k (omega arith)
-
-pub square-operands : {p n a t : ℕ} {w : List ℕ} → 0 < p → n ≤ limit → Apart w a n t n → Operands p n a a t w
-square-operands l order apart = record { modulus = l; order = omega arith; left = apart; right = apart }
 
 module _ {p n rounds : ℕ} {u : List ℕ} (pre : PowerOperands p n rounds u) where
   pub place-bound : (i : ℕ) → i ≤ 13 → i * n ≤ 53248
@@ -137,25 +116,8 @@ module _ {p n rounds : ℕ} {u : List ℕ} (pre : PowerOperands p n rounds u) wh
   squares-operands {i} {v} size some below =
       let next = next-place n i in
       let room : (i + 1) * n + n ≤ length u = le-trans (places-before n i (rounds + 2) (omega arith)) (pre .room) in
-      square-operands (pre .modulus) (pre .order) (record { source = omega arith; target = omega arith; apart = inl (omega arith) })
-
-pub fourth-power : {p n : ℕ} {u v w : List ℕ} {r s : ℕ} → PowerOperands p n 1 u
-    → Multiplied p n 0 0 (2 * n) u v r → Multiplied p n (2 * n) (2 * n) n v w s → BasePower p n blockLength u w (r + s)
-unfolding blockLength powerProducts leadingZeros ones onesIn
-fourth-power {p} {n} {u} {v} {w} pre square fourth =
-    let g = segment u 0 n in
-    let squared : segment v (2 * n) n ≡ cutPower p n g 2 =
-    multiplied-value square (omega (arith, pre .room))
-    ∙ power-product (pre .modulus) n g (first-power (pre .modulus) n g) (first-power (pre .modulus) n g) in
-    let first : Within n (2 * n) u v = within-wider (omega arith) (omega arith) (multiplied-within square) in
-    record {
-      within = within-trans first (within-wider (omega arith) (omega arith) (multiplied-within fourth));
-      value =
-          multiplied-value fourth (omega (arith, first .size, pre .room))
-          ∙ rw squared
-          (power-product (pre .modulus) n g (cut-power (pre .modulus) n g 2) (cut-power (pre .modulus) n g 2));
-      sum = omega (arith, square .places, fourth .places);
-    }
+      let apart : Apart v (i * n) n ((i + 1) * n) n = record { source = omega arith; target = omega arith; apart = inl (omega arith) } in
+      record { modulus = pre .modulus; order = omega (arith, pre .order); left = apart; right = apart }
 
 pub squares-first : (p n : ℕ) (w : List ℕ) → Squares p n 1 w w 0
 squares-first p n w = record {
@@ -172,7 +134,7 @@ squares-next {p} {n} {rounds} {i} {u} {v} {w} pre some below before now =
     let room : (i + 2) * n ≤ length v = rw (before .within .size) (le-trans (mul-le-mul-right n (omega arith)) (pre .room)) in
     record {
       within = within-trans (within-wider (le-refl n) (omega arith) (before .within)) (within-wider (omega arith) (omega arith) (multiplied-within now));
-      value = λ b g value. rw (now .written) (holds-next (pre .modulus) some room (before .value b g value));
+      value = λ b g value. rw (now .written) (holds-next some room (before .value b g value));
       sum = omega (arith, before .sum, now .places);
     }
 

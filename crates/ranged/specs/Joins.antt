@@ -24,8 +24,8 @@ use mathlib.Core.Logic.{inl}
 use mathlib.Core.Path.{_≡_, ap, _∙_}
 use lib.ListN.{length}
 use lib.Pow.{pow-mono}
-use Rattle.definition.specs.Ranged.{block, cutPower}
-use Rattle.definition.specs.Refusal.{limit}
+use Rattle.definition.specs.Ranged.{block}
+use Rattle.definition.specs.Refusal.{limit, longestBlock}
 use Rattle.definition.specs.Substitution.{composed}
 use Rattle.definition.specs.Weight.{hornerWeight}
 use Rattle.horner.specs.Part.{Part, PartOperands}
@@ -33,6 +33,7 @@ use Rattle.buffer.specs.Segments.{segment}
 use Rattle.product.specs.Single.{Operands}
 use Rattle.buffer.specs.Within.{Within, segment-within, within-trans, within-wider}
 use Rattle.powers.specs.Kept.{Holds, holds-within, next-place}
+use Rattle.powers.specs.Powers.{IsPower, joined-power}
 use Rattle.ranged.specs.Neighbours.{Joined}
 use Rattle.ranged.specs.Spans.{length-block, length-span, span, span-alone, span-block, span-composed, span-weight}
 
@@ -42,7 +43,7 @@ pub record SpanOperands (p n b level j t : ℕ) (f w : List ℕ) : Type 0 where
   pub order : n ≤ limit
   pub outer : length f ≤ limit
   pub some : 0 < b
-  pub short : b ≤ 64
+  pub short : b ≤ longestBlock
   pub levels : level ≤ 12
   pub begins : b * j ≤ length f
   pub apart : (level + 1) * n ≤ t
@@ -184,7 +185,8 @@ module _ {p n b level below j t : ℕ} {f u : List ℕ} (e : level ≡ suc below
             (within-wider (le-refl t) (omega (arith, three)) (join .within)));
         value =
             join .value
-            ∙ rw (even-value, odd-value, power-value, e) (span-composed b f below j next (pre .modulus) n (segment u 0 n));
+            ∙ joined-power (pre .modulus) (segment w t n) (segment w (t + n) n) power-value
+            ∙ rw (even-value, odd-value, e) (span-composed b f below j next (pre .modulus) n (segment u 0 n));
         sum = rw (even .sum, odd .sum, join .places, e) (span-weight b f below j next (pre .some) n);
       }
         where
@@ -194,7 +196,7 @@ module _ {p n b level below j t : ℕ} {f u : List ℕ} (e : level ≡ suc below
           odd-value : segment w (t + n) n ≡ composed p n (span b below (j + 2 ^ below) f) (segment u 0 n)
           odd-value = odd .value ∙ ap (composed p n (span b below (j + 2 ^ below) f)) inner-kept
 
-          power-value : segment w (level * n) n ≡ cutPower p n (segment u 0 n) (b * 2 ^ below)
+          power-value : IsPower p n (segment u 0 n) (b * 2 ^ below) (segment w (level * n) n)
           power-value =
               let kept = holds-within (omega (arith, pre .apart)) (odd .within) (holds-within (pre .apart) (even .within) (pre .powers)) in
               rw lower at (kept .power below (omega arith))

@@ -12,13 +12,13 @@ use native.Mathlib.Omega.{arith, by-contra}
 use mathlib.Core.Bool.{cond}
 use mathlib.Core.Path.{_≡_}
 use borrow.Author.Tests.{le-leb, lt-leb}
-use lib.Count.{ones-le}
 use lib.Dec.{leb}
 use Rattle.algebra.specs.Halvings.{halvings-1, halvings-least, halvings-suc}
 use Rattle.algebra.specs.Lists.{ceilDiv-below}
 use Rattle.definition.specs.Lists.{ceilDiv}
-use Rattle.definition.specs.Refusal.{limit}
-use Rattle.definition.specs.Weight.{halvings, hornerWeight, joinProducts, powerProducts, rangedProducts, rangedWeight}
+use Rattle.definition.specs.Refusal.{limit, longestBlock}
+use Rattle.definition.specs.Weight.{halvings, hornerWeight, joinProducts, rangedProducts, rangedWeight}
+use Rattle.powers.specs.Digits.{power-products-few}
 use Rattle.powers.specs.Kept.{powersProducts}
 
 join-products : (rounds k : ℕ) → k ≤ rounds → 1 < k → joinProducts rounds k ≡ k - 1 + (halvings k - 1)
@@ -63,7 +63,7 @@ module _ (b m : ℕ) (positive : 0 < b) where
       by-contra (halvings (ceilDiv m b)) 12 λ many.
       omega (arith, ceilDiv-below positive m limit .0 (halvings-least (ceilDiv m b) 12 many), mul-le-mul-left limit positive)
 
-pub few-products : (b rounds : ℕ) → b ≤ 64 → rounds ≤ 12 → powersProducts b rounds ≤ 50
-unfolding powersProducts powerProducts
+pub few-products : (b rounds : ℕ) → b ≤ longestBlock → rounds ≤ 12 → powersProducts b rounds ≤ 50
+unfolding powersProducts
 few-products b zero short few = omega arith
-few-products b (suc rounds) short few = omega (arith, ones-le 7 b (omega arith))
+few-products b (suc rounds) short few = omega (arith, power-products-few b short)

@@ -18,18 +18,19 @@ use mathlib.Core.Logic.{inl}
 use mathlib.Core.Path.{_≡_, _∙_}
 use lib.ListN.{length}
 use Rattle.definition.specs.Lists.{ceilDiv}
-use Rattle.definition.specs.Refusal.{limit}
+use Rattle.definition.specs.Refusal.{limit, longestBlock}
 use Rattle.definition.specs.Substitution.{composed}
 use Rattle.definition.specs.Weight.{halvings, rangedWeight}
 use Rattle.buffer.specs.Segments.{segment}
 use Rattle.route.specs.Contract.{Lent}
 use Rattle.buffer.specs.Within.{Within, segment-within, within-trans, within-wider}
 use Rattle.ranged.specs.Joins.{SpanOperands, SpanPart, span-small}
-use Rattle.powers.specs.Kept.{PowerOperands, Powers}
+use Rattle.powers.specs.Binary.{PowerOperands}
+use Rattle.powers.specs.Kept.{Powers}
 use Rattle.ranged.specs.Spans.{span, span-whole}
 use Rattle.ranged.specs.Weights.{few-products, few-rounds, ranged-weight}
 
-module _ {p n b levels work : ℕ} (f : List ℕ) (lent : Lent p n (length f) work) (bounds : (0 < b) × (b ≤ 64))
+module _ {p n b levels work : ℕ} (f : List ℕ) (lent : Lent p n (length f) work) (bounds : (0 < b) × (b ≤ longestBlock))
     (number : levels ≡ halvings (ceilDiv (length f) b)) where
   pub whole-levels : levels ≤ 12
   whole-levels = rw number (few-rounds b (length f) (bounds .0) (lent .outer))

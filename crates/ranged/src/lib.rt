@@ -5,8 +5,8 @@ ghost use mathlib.Core.Path.{_≡_};
 ghost use lib.ListN.{length};
 ghost use Prim.Native.Nat.{_+_, _*_, _^_, _<_, _≤_, min};
 ghost use Rattle.definition.specs.Lists.{ceilDiv};
-ghost use Rattle.definition.specs.Ranged.{block, blockLength};
-ghost use Rattle.definition.specs.Refusal.{limit};
+ghost use Rattle.definition.specs.Ranged.{block};
+ghost use Rattle.definition.specs.Refusal.{limit, longestBlock};
 ghost use Rattle.definition.specs.Weight.{halvings, rangedWeight};
 ghost use Rattle.horner.specs.Part.{Part};
 ghost use Rattle.route.specs.Contract.{Lent, Route};
@@ -14,12 +14,9 @@ ghost use Rattle.product.specs.Single.{Operands};
 ghost use Rattle.ranged.specs.Joins.{SpanOperands, SpanPart};
 ghost use Rattle.ranged.specs.Neighbours.{Joined};
 
-// The number of places of a block.
-const BLOCK_LENGTH: usize = 4;
-
 // The number of rounds in which m places, in blocks of b, are joined.
 fn rounds(m: usize, b: usize) -> usize
-    requires { ⌜ (m ≤ limit) × (0 < b) × (b ≤ 64) ⌝ }
+    requires { ⌜ (m ≤ limit) × (0 < b) × (b ≤ longestBlock) ⌝ }
     ensures { λ r. ⌜ r ≡ halvings (ceilDiv m b) ⌝ }
 {
     number::halvings(number::rounded_up(m, b))
@@ -95,17 +92,17 @@ fn compose_span(
     even.plus(odd).plus(joined)
 }
 
-// Route 2: f(g) modulo x^n, at place 0 of w.
-pub fn ranged(p: u32, n: usize, f: &[u32], g: &[u32], w: &mut [u32]) -> Weight
-    requires { ⌜ Lent p n (length (now f)) (length (now w)) ⌝ }
-    ensures { λ r. ⌜ Route p n (now (f .entry)) (now (g .entry)) (rangedWeight blockLength n (length (now (f .entry))))
+// Route 2 in blocks of b places: f(g) modulo x^n, at place 0 of w.
+pub fn ranged(p: u32, n: usize, b: usize, f: &[u32], g: &[u32], w: &mut [u32]) -> Weight
+    requires { ⌜ Lent p n (length (now f)) (length (now w)) × ((0 < b) × (b ≤ longestBlock)) ⌝ }
+    ensures { λ r. ⌜ Route p n (now (f .entry)) (now (g .entry)) (rangedWeight b n (length (now (f .entry))))
         (now (w .entry)) (now (w .exit)) (r .places) ⌝ }
 {
-    let levels = rounds(f.len(), BLOCK_LENGTH);
+    let levels = rounds(f.len(), b);
     let t = (levels + 1) * n;
     route::put(g, n, w, 0);
-    let formed = powers::powers(p, n, levels, w);
-    let joined = compose_span(p, n, BLOCK_LENGTH, f, levels, 0, w, t);
-    buffer::move_down(w, t, 0, n);
+    let formed = powers::powers(p, n, b, levels, w);
+    let joined = compose_span(p, n, b, f, levels, 0, w, t);
+    buffer::copy_part(w, t, 0, n);
     formed.plus(joined)
 }

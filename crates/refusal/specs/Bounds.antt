@@ -18,11 +18,12 @@ use Rattle.algebra.specs.Prime.{prime-positive}
 use Rattle.definition.specs.Chain.{Chain}
 use Rattle.definition.specs.Lists.{coefficient}
 use Rattle.definition.specs.Prime.{Prime, largestModulus}
-use Rattle.definition.specs.Refusal.{badModulus, badOrder, composeRefusal, composeWork, cycleRefusal, cycleWork, exceeds, first, hasConstant, irreversible, limit, mostCycles, openRefusal, renderRefusal, reverseRefusal, test}
+use Rattle.definition.specs.Refusal.{badModulus, badOrder, composeRefusal, composeWork, cycleRefusal, cycleWork, exceeds, first, hasConstant, irreversible, limit, longestBlock, mostCycles, openRefusal, renderRefusal, reverseRefusal, test}
 use Rattle.field.specs.Opening.{good-modulus}
 use Rattle.refusal_tests.specs.Tests.{
   Passed,
   absent,
+  block-within,
   constant-zero,
   either-false,
   fired,
@@ -41,8 +42,9 @@ pub record FieldBounds (p n : ℕ) : Type 0 where
   pub positive : 0 < n
   pub order : n ≤ limit
 
-pub record ComposeBounds (route p n : ℕ) (f g : List ℕ) (places work : ℕ) : Type 0 where
+pub record ComposeBounds (route b p n : ℕ) (f g : List ℕ) (places work : ℕ) : Type 0 where
   pub named : (0 < route) × (route ≤ 4)
+  pub blocks : route ≡ 2 → (0 < b) × (b ≤ longestBlock)
   pub field : FieldBounds p n
   pub outer : length f ≤ limit
   pub inner : length g ≤ limit
@@ -63,8 +65,9 @@ pub record OpenBounds (p n places : ℕ) : Type 0 where
   pub field : FieldBounds p n
   pub output : places ≡ n
 
-pub record CycleBounds (route : ℕ) (chain : Chain) (c s : List ℕ) (work : ℕ) : Type 0 where
+pub record CycleBounds (route b : ℕ) (chain : Chain) (c s : List ℕ) (work : ℕ) : Type 0 where
   pub named : (0 < route) × (route ≤ 4)
+  pub blocks : route ≡ 2 → (0 < b) × (b ≤ longestBlock)
   pub field : FieldBounds (chain .modulus) (chain .order)
   pub outer : length c ≤ limit
   pub running : length s ≡ chain .order
@@ -92,14 +95,15 @@ field-lent b outer enough = record {
   enough = enough;
 }
 
-pub compose-bounds : (route p n : ℕ) (f g : List ℕ) (places work : ℕ) → composeRefusal route p n f g places work ≡ 0
-    → ComposeBounds route p n f g places work
+pub compose-bounds : (route b p n : ℕ) (f g : List ℕ) (places work : ℕ) → composeRefusal route b p n f g places work ≡ 0
+    → ComposeBounds route b p n f g places work
 unfolding composeRefusal absent Passed test
-compose-bounds route p n f g places work accepted =
-    let (one, (two, (three, (four, (five, (six, (seven, (eight, _)))))))) = passed 8 _ accepted refl .0 in
+compose-bounds route b p n f g places work accepted =
+    let (one, (fifteen, (two, (three, (four, (five, (six, (seven, (eight, _))))))))) = passed 9 _ accepted refl .0 in
     let below = either-false (exceeds p f) (exceeds p g) eight in
     record {
       named = route-within route one;
+      blocks = block-within route b fifteen;
       field = field-bounds two three;
       outer = length-within f four;
       inner = length-within g five;
@@ -135,15 +139,16 @@ open-bounds p n places accepted =
     let (two, (three, (six, _))) = passed 3 _ accepted refl .0 in
     record { field = field-bounds two three; output = places-equal n places six }
 
-pub cycle-bounds : (route : ℕ) (chain : Chain) (c s : List ℕ) (work : ℕ) → cycleRefusal route chain c s work ≡ 0
-    → CycleBounds route chain c s work
+pub cycle-bounds : (route b : ℕ) (chain : Chain) (c s : List ℕ) (work : ℕ) → cycleRefusal route b chain c s work ≡ 0
+    → CycleBounds route b chain c s work
 unfolding cycleRefusal absent Passed test
-cycle-bounds route chain c s work accepted =
-    let (one, (two, (three, (five, (six, (seven, (eight, (ten, (eleven, _))))))))) = passed 9 _ accepted refl .0 in
+cycle-bounds route b chain c s work accepted =
+    let (one, (fifteen, (two, (three, (five, (six, (seven, (eight, (ten, (eleven, _)))))))))) = passed 10 _ accepted refl .0 in
     let below = either-false (exceeds (chain .modulus) c) (exceeds (chain .modulus) s) eight in
     let constants = either-false (hasConstant c) (hasConstant s) ten in
     record {
       named = route-within route one;
+      blocks = block-within route b fifteen;
       field = field-bounds two three;
       outer = length-within c five;
       running = places-equal (chain .order) (length s) six;

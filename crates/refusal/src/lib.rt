@@ -42,9 +42,10 @@ pub fn cycle_places(n: usize, m: usize) -> usize
     CYCLE_WORK_PER_POWER * n + WORK_PER_COEFFICIENT * m
 }
 
-// The number that compose returns for an output of `places` places and `work` places of work.
+// The number that compose returns for blocks of b places, an output of `places` places and `work` places of work.
 pub fn compose(
     route: u32,
+    b: usize,
     p: u32,
     n: usize,
     f: &[u32],
@@ -52,9 +53,9 @@ pub fn compose(
     places: usize,
     work: usize,
 ) -> u32
-    ensures { λ r. ⌜ r ≡ composeRefusal route p n (now (f .entry)) (now (g .entry)) places work ⌝ }
+    ensures { λ r. ⌜ r ≡ composeRefusal route b p n (now (f .entry)) (now (g .entry)) places work ⌝ }
 {
-    let number = next_number(routed_number(route, p, n), 4, f.len() > LIMIT);
+    let number = next_number(routed_number(route, b, p, n), 4, f.len() > LIMIT);
     let number = next_number(number, 5, g.len() > LIMIT);
     let number = next_number(number, 6, places != n);
     let number = next_number(number, 7, short_work(WORK_PER_POWER, n, f.len(), work));
@@ -80,11 +81,20 @@ pub fn open(p: u32, n: usize, places: usize) -> u32
     next_number(field_number(p, n), 6, places != n)
 }
 
-// The number that a cycle with the list c returns, where s is the running series and `done` cycles are done.
-pub fn cycle(route: u32, p: u32, n: usize, done: u32, c: &[u32], s: &[u32], work: usize) -> u32
-    ensures { λ r. ⌜ r ≡ cycleRefusal route (record { modulus = p; order = n; done = done }) (now (c .entry)) (now (s .entry)) work ⌝ }
+// The number that a cycle with the list c returns for blocks of b places, where s is the running series and `done` cycles are done.
+pub fn cycle(
+    route: u32,
+    b: usize,
+    p: u32,
+    n: usize,
+    done: u32,
+    c: &[u32],
+    s: &[u32],
+    work: usize,
+) -> u32
+    ensures { λ r. ⌜ r ≡ cycleRefusal route b (record { modulus = p; order = n; done = done }) (now (c .entry)) (now (s .entry)) work ⌝ }
 {
-    let number = next_number(routed_number(route, p, n), 5, c.len() > LIMIT);
+    let number = next_number(routed_number(route, b, p, n), 5, c.len() > LIMIT);
     let number = next_number(number, 6, s.len() != n);
     let number = next_number(
         number,

@@ -15,7 +15,7 @@
 --   fired                    a last test whose number is the number of the list fired
 --   factor-fits short-factor short-rest   the test of the places of work, in steps that fit a word
 --   either-false             of two tests that are one, neither fired
---   places-equal route-within order-within length-within constant-zero   what tests tell that did not fire
+--   places-equal route-within block-within order-within length-within constant-zero   what tests tell that did not fire
 -- Assumes nothing.
 use Prim.Native.Nat.{ℕ, zero, suc, _+_, _-_, _*_, _/_, _<_, _≤_}
 use native.Mathlib.Nat.{div-lt-iff-lt-mul, le-div-iff-mul-le, mul-comm}
@@ -28,13 +28,13 @@ use mathlib.Core.List.{List, [], _∷_, _++_}
 use mathlib.Core.Logic.{_≢_}
 use mathlib.Core.Path.{_≡_, refl, sym, _∙_}
 use Rattle.definition.specs.Lists.{coefficient}
-use Rattle.definition.specs.Refusal.{Test, badModulus, badOrder, badRoute, first, hasConstant, limit, notPlaces, test, tooLong}
+use Rattle.definition.specs.Refusal.{Test, badBlock, badModulus, badOrder, badRoute, first, hasConstant, limit, longestBlock, notPlaces, test, tooLong}
 
 abbrev pub fieldTests : ℕ → ℕ → List Test
 fieldTests p n = test 2 (badModulus p) ∷ test 3 (badOrder n) ∷ []
 
-abbrev pub routedTests : ℕ → ℕ → ℕ → List Test
-routedTests route p n = test 1 (badRoute route) ∷ fieldTests p n
+abbrev pub routedTests : ℕ → ℕ → ℕ → ℕ → List Test
+routedTests route b p n = test 1 (badRoute route) ∷ test 15 (badBlock route b) ∷ fieldTests p n
 
 abbrev pub listTests : ℕ → ℕ → ℕ → List Test
 listTests number n places = test 3 (eqb number 0 && badOrder n) ∷ test 6 (eqb number 0 && notPlaces n places) ∷ []
@@ -162,6 +162,10 @@ within k bound h =
 pub route-within : (route : ℕ) → badRoute route ≡ false → (0 < route) × (route ≤ 4)
 unfolding badRoute
 route-within route h = within route 4 h
+
+pub block-within : (route b : ℕ) → badBlock route b ≡ false → route ≡ 2 → (0 < b) × (b ≤ longestBlock)
+unfolding badBlock
+block-within route b h two = within b longestBlock (rw two at h)
 
 pub order-within : (n : ℕ) → badOrder n ≡ false → (0 < n) × (n ≤ limit)
 unfolding badOrder

@@ -8,14 +8,27 @@ ghost use mathlib.Core.Bool.{_||_};
 ghost use mathlib.Core.List.{[], _∷_};
 ghost use mathlib.Core.Path.{_≡_};
 ghost use Prim.Native.Nat.{_<_};
-ghost use Rattle.definition.specs.Refusal.{badModulus, badOrder, badRoute, exceeds, first, hasConstant, irreversible, test, workPlaces};
+ghost use Rattle.definition.specs.Refusal.{badBlock, badModulus, badOrder, badRoute, exceeds, first, hasConstant, irreversible, test, workPlaces};
 ghost use Rattle.refusal_tests.specs.Tests.{fieldTests, numberAfter, routedTests};
+
+// The longest block of route 2.
+const LONGEST_BLOCK: usize = 64;
 
 // Whether the route is not 1, 2, 3 or 4.
 pub fn bad_route(route: u32) -> bool
     ensures { λ r. ⌜ r ≡ badRoute route ⌝ }
 {
     if route == 0 { true } else { route > 4 }
+}
+
+// Whether the route is 2 and its block length b is 0 or above the longest.
+pub fn bad_block(route: u32, b: usize) -> bool
+    ensures { λ r. ⌜ r ≡ badBlock route b ⌝ }
+{
+    if route != 2 {
+        return false;
+    }
+    if b == 0 { true } else { b > LONGEST_BLOCK }
 }
 
 // Whether p is not prime or above the largest modulus. A prime of the table is known by a look at it.
@@ -94,19 +107,31 @@ pub fn coefficient_number(earlier: u32, p: u32, l: &[u32]) -> u32
     if buffer::exceeds(l, p) { 8 } else { 0 }
 }
 
+// The same of the test 2, which is made only where no earlier test fired.
+pub fn modulus_number(earlier: u32, p: u32) -> u32
+    ensures { λ r. ⌜ r ≡ numberAfter earlier (test 2 (badModulus p) ∷ []) ⌝ }
+{
+    if earlier != 0 {
+        return earlier;
+    }
+    if bad_modulus(p) { 2 } else { 0 }
+}
+
 // The number of the tests of modulus and order: 2, 3 or 0.
 pub fn field_number(p: u32, n: usize) -> u32
     ensures { λ r. ⌜ r ≡ first (fieldTests p n) ⌝ }
 {
-    next_number(next_number(0, 2, bad_modulus(p)), 3, bad_order(n))
+    next_number(modulus_number(0, p), 3, bad_order(n))
 }
 
-// The number of the tests of route, modulus and order: 1, 2, 3 or 0.
-pub fn routed_number(route: u32, p: u32, n: usize) -> u32
-    ensures { λ r. ⌜ r ≡ first (routedTests route p n) ⌝ }
+// The number of the tests of route, block length, modulus and order: 1, 15, 2, 3 or 0.
+pub fn routed_number(route: u32, b: usize, p: u32, n: usize) -> u32
+    ensures { λ r. ⌜ r ≡ first (routedTests route b p n) ⌝ }
 {
-    if bad_route(route) {
-        return 1;
-    }
-    field_number(p, n)
+    let block = bad_block(route, b);
+    let order = bad_order(n);
+    let number = next_number(0, 1, bad_route(route));
+    let number = next_number(number, 15, block);
+    let number = modulus_number(number, p);
+    next_number(number, 3, order)
 }

@@ -1,10 +1,30 @@
-// The C interface: compose, reverse, the calls of a chain, the table of primes and rendering as C functions. A slice passes as its
+// The C interface: compose, reverse, the calls of a chain, the table of primes and rendering as C functions; compose and the cycle with a block
+// length for route 2, and without one. A slice passes as its
 // pointer and its count.
 use chain::Chain;
 ghost use Rattle.chain.specs.Record.{recorded};
 ghost use Rattle.definition.specs.Calls.{Compose, Cycle, Open, Render, Reverse, Table};
+ghost use Rattle.definition.specs.Ranged.{blockLength};
 
-// f(g) modulo x^n over the integers modulo p, by the route named.
+// f(g) modulo x^n over the integers modulo p, by the route named, with blocks of so many places in route 2.
+#[no_mangle]
+pub extern "C" fn ruhitapo_compose_blocks(
+    route: u32,
+    block: usize,
+    p: u32,
+    n: usize,
+    f: &[u32],
+    g: &[u32],
+    out: &mut [u32],
+    work: &mut [u32],
+) -> refusal::Answer
+    ensures { λ r. ⌜ Compose route block p n (now (f .entry)) (now (g .entry)) (now (out .entry)) (now (out .exit))
+        (now (work .entry)) (now (work .exit)) (r .number) (r .weight) ⌝ }
+{
+    compose::compose_blocks(route, block, p, n, f, g, out, work)
+}
+
+// The same, in blocks of the length where none is named.
 #[no_mangle]
 pub extern "C" fn ruhitapo_compose(
     route: u32,
@@ -15,7 +35,7 @@ pub extern "C" fn ruhitapo_compose(
     out: &mut [u32],
     work: &mut [u32],
 ) -> refusal::Answer
-    ensures { λ r. ⌜ Compose route p n (now (f .entry)) (now (g .entry)) (now (out .entry)) (now (out .exit))
+    ensures { λ r. ⌜ Compose route blockLength p n (now (f .entry)) (now (g .entry)) (now (out .entry)) (now (out .exit))
         (now (work .entry)) (now (work .exit)) (r .number) (r .weight) ⌝ }
 {
     compose::compose(route, p, n, f, g, out, work)
@@ -44,7 +64,31 @@ pub extern "C" fn ruhitapo_open(p: u32, n: usize, running: &mut [u32]) -> chain:
     Chain::open(p, n, running)
 }
 
-// A cycle of a chain, whose record comes as its numbers.
+// A cycle of a chain, whose record comes as its numbers, with blocks of so many places in route 2.
+#[no_mangle]
+pub extern "C" fn ruhitapo_cycle_blocks_numbers(
+    modulus: u32,
+    order: usize,
+    done: u32,
+    route: u32,
+    block: usize,
+    list: &[u32],
+    running: &mut [u32],
+    work: &mut [u32],
+) -> chain::Cycled
+    ensures { λ r. ⌜ Cycle route block (record { modulus = modulus; order = order; done = done }) (now (list .entry))
+        (now (running .entry)) (now (running .exit)) (now (work .entry)) (now (work .exit))
+        (r .number) (r .weight) (recorded (r .chain)) ⌝ }
+{
+    let chain = Chain {
+        modulus: modulus,
+        order: order,
+        done: done,
+    };
+    chain.cycle_blocks(route, block, list, running, work)
+}
+
+// The same, in blocks of the length where none is named.
 #[no_mangle]
 pub extern "C" fn ruhitapo_cycle_numbers(
     modulus: u32,
@@ -55,16 +99,12 @@ pub extern "C" fn ruhitapo_cycle_numbers(
     running: &mut [u32],
     work: &mut [u32],
 ) -> chain::Cycled
-    ensures { λ r. ⌜ Cycle route (record { modulus = modulus; order = order; done = done }) (now (list .entry))
+    ensures { λ r. ⌜ Cycle route blockLength (record { modulus = modulus; order = order; done = done }) (now (list .entry))
         (now (running .entry)) (now (running .exit)) (now (work .entry)) (now (work .exit))
         (r .number) (r .weight) (recorded (r .chain)) ⌝ }
 {
-    let chain = Chain {
-        modulus: modulus,
-        order: order,
-        done: done,
-    };
-    chain.cycle(route, list, running, work)
+    let block = compose::BLOCK_LENGTH;
+    ruhitapo_cycle_blocks_numbers(modulus, order, done, route, block, list, running, work)
 }
 
 // Entry `index` of the table of the sixteen primes.

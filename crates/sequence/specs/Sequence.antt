@@ -41,8 +41,8 @@ pub data Sequence (p n : ℕ) : Chain → List ℕ → List (List ℕ) → Type 
   opened : {s s′ : List ℕ} {number weight : ℕ} {chain : Chain} → Open p n s s′ number weight chain → number ≡ 0
       → Sequence p n chain s′ []
   called : {chain : Chain} {s : List ℕ} {cs : List (List ℕ)} → Sequence p n chain s cs
-      → {route number weight : ℕ} {chain′ : Chain} {c s′ work work′ : List ℕ}
-      → Cycle route chain c s s′ work work′ number weight chain′ → Sequence p n chain′ s′ (acceptedAfter number c cs)
+      → {route b number weight : ℕ} {chain′ : Chain} {c s′ work work′ : List ℕ}
+      → Cycle route b chain c s s′ work work′ number weight chain′ → Sequence p n chain′ s′ (acceptedAfter number c cs)
 
 pub record ChainOf (p n : ℕ) (chain : Chain) (s : List ℕ) (cs : List (List ℕ)) : Type 0 where
   pub modulus : chain .modulus ≡ p
@@ -60,10 +60,10 @@ opened-chain {n = n} o =
 
 -- an accepted cycle is one more; a refused one leaves all as it was
 called-chain : {p n : ℕ} {chain : Chain} {s : List ℕ} {cs : List (List ℕ)} → ChainOf p n chain s cs
-    → {route : ℕ} (number : ℕ) {weight : ℕ} {chain′ : Chain} {c s′ work work′ : List ℕ}
-    → Cycle route chain c s s′ work work′ number weight chain′ → ChainOf p n chain′ s′ (acceptedAfter number c cs)
+    → {route b : ℕ} (number : ℕ) {weight : ℕ} {chain′ : Chain} {c s′ work work′ : List ℕ}
+    → Cycle route b chain c s s′ work work′ number weight chain′ → ChainOf p n chain′ s′ (acceptedAfter number c cs)
 unfolding nextChain kept acceptedAfter running after
-called-chain {p} {n} {chain} {s} {cs} r {route} zero {c = c} {work = work} q =
+called-chain {p} {n} {chain} {s} {cs} r {route} {b} zero {c = c} {work = work} q =
     let series : _≡_ {A = List ℕ} _ (composed p n c (running p n cs)) = rw (r .modulus, r .order, r .series) at (q .running) in
     rw (q .records)
     (record {
@@ -72,7 +72,7 @@ called-chain {p} {n} {chain} {s} {cs} r {route} zero {c = c} {work = work} q =
       counts = omega (arith, r .counts, length-append cs (c ∷ []));
       series = series ∙ sym (after-++ p n (identity n) cs (c ∷ []));
       places = ap length series ∙ length-composed p n c _;
-      most = omega (arith, cycle-bounds route chain c s (length work) (sym (q .refusal)) .not-full);
+      most = omega (arith, cycle-bounds route b chain c s (length work) (sym (q .refusal)) .not-full);
     })
 called-chain r (suc number) q = rw (q .records, q .running) r
 
@@ -92,6 +92,6 @@ accepted-free (suc number) c cs h z d m = h d m
 
 pub sequence-constant-free : {p n : ℕ} {chain : Chain} {s : List ℕ} {cs : List (List ℕ)} → Sequence p n chain s cs → ConstantFree cs
 sequence-constant-free (opened o e) = λ c m. absurd (List·Memᴰ·not-nil m)
-sequence-constant-free (called {chain} {s} {cs} before {route} {number} {c = c} {work = work} q) =
+sequence-constant-free (called {chain} {s} {cs} before {route} {b} {number} {c = c} {work = work} q) =
     accepted-free number c cs (sequence-constant-free before)
-    (λ e. cycle-bounds route chain c s (length work) (sym (q .refusal) ∙ e) .constant-free)
+    (λ e. cycle-bounds route b chain c s (length work) (sym (q .refusal) ∙ e) .constant-free)

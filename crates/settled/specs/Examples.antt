@@ -1,16 +1,16 @@
--- The twelve settled examples of 01, as rows of one table with one theorem.
+-- The twelve settled examples of 01 and the case of request N1, as rows of one table with one theorem.
 --
 --   Example     a row of the table: a job and its result
 --   Holds e     what the row says of the definitions
---   examples    the table, in the order of 01
+--   examples    the table, in the order of 01, and then N1's case
 --   settled     every row of the table holds
 --
 -- Assumes nothing.
-use Prim.Native.Nat.{ℕ}
+use Prim.Native.Nat.{ℕ, suc}
 use mathlib.Core.Path.{_≡_, refl}
 use mathlib.Core.Bool.{false}
 use mathlib.Core.List.{List, [], _∷_}
-use lib.ListN.{length}
+use lib.ListN.{length, replicate}
 use Rattle.definition.specs.Lists.{sum, tabulate, coefficient, ceilDiv}
 use Rattle.definition.specs.Substitution.{productTerm, product, constant, power, substitutedTerm, substituted, composedAt, composed}
 use Rattle.definition.specs.Ranged.{blockLength}
@@ -31,7 +31,7 @@ use Rattle.definition.specs.Weight.{
   weight,
 }
 use Rattle.definition.specs.Prime.{indivisible, isPrime, largestModulus}
-use Rattle.definition.specs.Refusal.{test, first, composeWork, badRoute, badModulus, badOrder, tooLong, notPlaces, exceeds, irreversible, composeRefusal, reverseRefusal}
+use Rattle.definition.specs.Refusal.{test, first, composeWork, badRoute, badBlock, badModulus, badOrder, tooLong, notPlaces, exceeds, irreversible, composeRefusal, reverseRefusal}
 use Rattle.definition.specs.Taylor.{binomial, shiftedTerm, shifted, leastPower, valuation, leadingAt, leading}
 use Rattle.definition.specs.Reversion.{identityAt, identity, Reversion}
 
@@ -42,6 +42,8 @@ pub data Example : Type 0 where
   weighing : ℕ → ℕ → ℕ → ℕ → ℕ → Example
   -- the same for every p
   weighing-any : ℕ → ℕ → ℕ → ℕ → Example
+  -- n, the count of f; the weights of route 2 for every p, at the block lengths from 1 on
+  weighing-lengths : ℕ → ℕ → List ℕ → Example
   -- p, n, g; the reverse series
   reversing : ℕ → ℕ → List ℕ → List ℕ → Example
   -- p, n, g; the refusal
@@ -51,9 +53,12 @@ pub data Example : Type 0 where
 
 abbrev pub Holds : Example → Type 0
 Holds (composing route p n f g out w) =
-    (composeRefusal route p n f g n (composeWork n (length f)) ≡ 0) × (composed p n f g ≡ out) × (weight route p n (length f) ≡ w)
-Holds (weighing route p n m w) = weight route p n m ≡ w
-Holds (weighing-any route n m w) = (p : ℕ) → weight route p n m ≡ w
+    (composeRefusal route blockLength p n f g n (composeWork n (length f)) ≡ 0)
+    × (composed p n f g ≡ out)
+    × (weight route blockLength p n (length f) ≡ w)
+Holds (weighing route p n m w) = weight route blockLength p n m ≡ w
+Holds (weighing-any route n m w) = (p : ℕ) → weight route blockLength p n m ≡ w
+Holds (weighing-lengths n m ws) = (p : ℕ) → tabulate (length ws) (λ i. weight 2 (suc i) p n m) ≡ ws
 Holds (reversing p n g h) = (reverseRefusal p n g n (composeWork n (length g)) ≡ 0) × Reversion p n g h
 Holds (not-reversing p n g number) = reverseRefusal p n g n (composeWork n (length g)) ≡ number
 Holds (equal p n g f₁ f₂ out) = (composed p n f₁ g ≡ out) × (composed p n f₂ g ≡ out) × (leading p n f₁ g ≡ leading p n f₂ g)
@@ -85,10 +90,11 @@ examples =
     ∷ not-reversing 7 2 (0 ∷ 0 ∷ 1 ∷ []) 9
     ∷ reversing 7 1 (0 ∷ 0 ∷ 1 ∷ []) (0 ∷ [])
     ∷ equal 7 3 (0 ∷ 0 ∷ 1 ∷ []) (1 ∷ 1 ∷ []) (1 ∷ 1 ∷ 5 ∷ []) (1 ∷ 0 ∷ 1 ∷ [])
+    ∷ weighing-lengths 4 9 (44 ∷ 44 ∷ 44 ∷ 44 ∷ 44 ∷ 44 ∷ 48 ∷ 44 ∷ replicate 56 32)
     ∷ []
 
 pub settled : Every examples
-unfolding sum tabulate coefficient ceilDiv productTerm product constant power substitutedTerm substituted composedAt composed blockLength partCount hornerWeight powerProducts joinProducts rangedProducts rangedWeight bernsteinLevels bernsteinWeight degreeBound halvingsFrom halvings kinoshitaLiLevels kinoshitaLiWeight weight lib.Count.ones lib.Count.onesIn lib.Count.leadingZeros indivisible isPrime largestModulus test first badRoute badModulus badOrder tooLong notPlaces exceeds irreversible composeRefusal reverseRefusal binomial shiftedTerm shifted leastPower valuation leadingAt leading identityAt identity
+unfolding sum tabulate coefficient ceilDiv productTerm product constant power substitutedTerm substituted composedAt composed partCount hornerWeight powerProducts joinProducts rangedProducts rangedWeight bernsteinLevels bernsteinWeight degreeBound halvingsFrom halvings kinoshitaLiLevels kinoshitaLiWeight weight lib.Count.ones lib.Count.onesIn lib.Count.leadingZeros indivisible isPrime largestModulus test first badRoute badBlock badModulus badOrder tooLong notPlaces exceeds irreversible composeRefusal reverseRefusal binomial shiftedTerm shifted leastPower valuation leadingAt leading identityAt identity
 settled =
     (refl, refl, refl)
     and (refl, refl, refl)
@@ -102,4 +108,5 @@ settled =
     and refl
     and (refl, reversion refl refl refl refl)
     and (refl, refl, refl)
+    and (λ p. refl)
     and tt

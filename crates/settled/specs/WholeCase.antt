@@ -14,7 +14,7 @@ use Rattle.definition.specs.Lists.{sum, tabulate, coefficient, ceilDiv}
 use Rattle.definition.specs.Substitution.{productTerm, product, constant, power, substitutedTerm, substituted, composedAt, composed}
 use Rattle.definition.specs.Weight.{hornerWeight, weight}
 use Rattle.definition.specs.Prime.{indivisible, isPrime, largestModulus}
-use Rattle.definition.specs.Refusal.{test, first, badRoute, badModulus, badOrder, tooLong, notPlaces, exceeds, composeRefusal}
+use Rattle.definition.specs.Refusal.{test, first, badRoute, badBlock, badModulus, badOrder, tooLong, notPlaces, exceeds, composeRefusal}
 use Rattle.definition.specs.Text.{decimalWithin, decimal, space, lineEnd, okLead, noLead, spaced, accepted, refused, rendered}
 use Rattle.definition.specs.Job.{headerBytes, word, field, route, modulus, order, wordOf, listAt, outer, inner, tooLarge, misplaced, cutShort, composeNumber, jobRefusal, jobText}
 
@@ -33,5 +33,5 @@ abbrev pub text : List ℕ
 text = 111 ∷ 107 ∷ 32 ∷ 52 ∷ 32 ∷ 56 ∷ 10 ∷ 49 ∷ 32 ∷ 50 ∷ 32 ∷ 53 ∷ 32 ∷ 54 ∷ 10 ∷ []
 
 pub whole-case : (length file ≡ 52) × (jobText file ≡ text)
-unfolding sum tabulate coefficient ceilDiv productTerm product constant power substitutedTerm substituted composedAt composed hornerWeight weight indivisible isPrime largestModulus test first badRoute badModulus badOrder tooLong notPlaces exceeds composeRefusal decimalWithin decimal space lineEnd okLead noLead spaced accepted refused rendered headerBytes word field route modulus order wordOf listAt outer inner tooLarge misplaced cutShort composeNumber jobRefusal jobText
+unfolding sum tabulate coefficient ceilDiv productTerm product constant power substitutedTerm substituted composedAt composed hornerWeight weight indivisible isPrime largestModulus test first badRoute badBlock badModulus badOrder tooLong notPlaces exceeds composeRefusal decimalWithin decimal space lineEnd okLead noLead spaced accepted refused rendered headerBytes word field route modulus order wordOf listAt outer inner tooLarge misplaced cutShort composeNumber jobRefusal jobText
 whole-case = (refl, refl)

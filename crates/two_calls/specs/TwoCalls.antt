@@ -1,4 +1,4 @@
--- When two answers are equal (demand 3): one claim about any two calls, each of compose or of a cycle. Both routes, what the output and
+-- When two answers are equal (demand 3): one claim about any two calls, each of compose or of a cycle. Both routes and block lengths, what the output and
 -- the work held before, and what else a call was given are left open. A cycle's outer and inner lists are its own list and the running
 -- series, its output is the running buffer. A name with a prime (′) is a value after the call. Assumes nothing.
 --
@@ -25,10 +25,10 @@ use Rattle.two_calls.specs.Leading.{leading-decides}
 use Rattle.refusal.specs.Bounds.{compose-bounds, cycle-bounds}
 
 pub data Call : ℕ → ℕ → ℕ → List ℕ → List ℕ → List ℕ → Type 0 where
-  compose : {route p n number weight : ℕ} {f g out out′ work work′ : List ℕ}
-      → Compose route p n f g out out′ work work′ number weight → Call number p n f g out′
-  cycle : {route number weight : ℕ} {chain chain′ : Chain} {c s s′ work work′ : List ℕ}
-      → Cycle route chain c s s′ work work′ number weight chain′ → Call number (chain .modulus) (chain .order) c s s′
+  compose : {route b p n number weight : ℕ} {f g out out′ work work′ : List ℕ}
+      → Compose route b p n f g out out′ work work′ number weight → Call number p n f g out′
+  cycle : {route b number weight : ℕ} {chain chain′ : Chain} {c s s′ work work′ : List ℕ}
+      → Cycle route b chain c s s′ work work′ number weight chain′ → Call number (chain .modulus) (chain .order) c s s′
 
 pub record Answers (p n : ℕ) (f₁ g₁ out₁ f₂ g₂ out₂ : List ℕ) : Type 0 where
   pub first : out₁ ≡ composed p n f₁ g₁
@@ -53,12 +53,12 @@ record Accepted (p n : ℕ) (f g out′ : List ℕ) : Type 0 where
 
 accepted : {number p n : ℕ} {f g out′ : List ℕ} → Call number p n f g out′ → number ≡ 0 → Accepted p n f g out′
 unfolding kept
-accepted (compose {route} {p} {n} {f = f} {g = g} {out = out} {work = work} q) e =
-    let b = compose-bounds route p n f g (length out) (length work) (sym (q .refusal) ∙ e) in
-    record { prime = b .field .prime; positive = b .field .positive; small = b .below-inner; answer = rw e at (q .output) }
-accepted (cycle {route} {chain = chain} {c = c} {s = s} {work = work} q) e =
-    let b = cycle-bounds route chain c s (length work) (sym (q .refusal) ∙ e) in
-    record { prime = b .field .prime; positive = b .field .positive; small = b .below-inner; answer = rw e at (q .running) }
+accepted (compose {route} {b} {p} {n} {f = f} {g = g} {out = out} {work = work} q) e =
+    let bounds = compose-bounds route b p n f g (length out) (length work) (sym (q .refusal) ∙ e) in
+    record { prime = bounds .field .prime; positive = bounds .field .positive; small = bounds .below-inner; answer = rw e at (q .output) }
+accepted (cycle {route} {b} {chain = chain} {c = c} {s = s} {work = work} q) e =
+    let bounds = cycle-bounds route b chain c s (length work) (sym (q .refusal) ∙ e) in
+    record { prime = bounds .field .prime; positive = bounds .field .positive; small = bounds .below-inner; answer = rw e at (q .running) }
 
 equal-answers : {p n : ℕ} {f₁ g₁ out₁ f₂ g₂ out₂ : List ℕ} → Accepted p n f₁ g₁ out₁ → Accepted p n f₂ g₂ out₂
     → ((k : ℕ) → k < n → coefficient g₁ k ≡ coefficient g₂ k) → Answers p n f₁ g₁ out₁ f₂ g₂ out₂

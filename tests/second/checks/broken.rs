@@ -29,6 +29,10 @@ pub const UNFIT_MODULI: [u64; 14] = [
 
 pub const UNFIT_ORDERS: [u64; 6] = [0, 4097, 4098, 1 << 32, (1 << 32) + 1, u64::MAX];
 
+/// Block lengths that route 2 does not take; some of them are short ones cut to fewer bits.
+pub const UNFIT_BLOCKS: [u64; 8] =
+    [0, 65, 66, 256 + 4, u32::MAX as u64, 1 << 32, (1 << 32) + 4, u64::MAX];
+
 /// The largest order for which buffers are made as long as it asks.
 const LARGEST_MADE: u64 = 4097;
 
@@ -36,7 +40,9 @@ impl Input {
     /// An input that the call accepts, with dirty buffers.
     pub fn draw(random: &mut Random, call: Call) -> Input {
         let (p, n, done) = (modulus(random), random.count(1, 8), random.below(64));
-        let mut input = Input { route: random.route(), p, n: n as u64, done, ..Input::default() };
+        let route = random.route();
+        let block = random.block_of(route);
+        let mut input = Input { route, block, p, n: n as u64, done, ..Input::default() };
         let (count, other_count) = (random.count(1, 9), random.count(0, 9));
         input.out = random.buffer(n);
         match call {
@@ -77,12 +83,22 @@ impl Input {
                 9 => self.make_irreversible(random, broken.contains(&8)),
                 10 => self.put_constant(random),
                 11 => self.done = random.pick(&[64, 65, u64::from(u32::MAX)]),
+                15 => self.put_unfit_block(random, broken.contains(&1)),
                 _ => (),
             }
         }
         self.lend(random, call);
         if broken.contains(&7) {
             self.shorten_work(random, call);
+        }
+    }
+
+    /// Names route 2 with a block length that it does not take. An unknown route stays, for which
+    /// such a length is no reason.
+    fn put_unfit_block(&mut self, random: &mut Random, unknown_route: bool) {
+        self.block = Some(random.pick(&UNFIT_BLOCKS));
+        if !unknown_route {
+            self.route = 2;
         }
     }
 

@@ -4,7 +4,7 @@
 use super::broken::{first, some};
 use super::library::{Call, Input, Left, Library};
 use super::reversion::identity;
-use super::support::{weight, Tally};
+use super::support::Tally;
 use crate::plain::random::Random;
 use crate::plain::refusals;
 use crate::plain::substitution::substitution;
@@ -37,12 +37,16 @@ pub fn precedence<L: Library>(tally: &mut Tally, random: &mut Random) {
     }
 }
 
-/// The numbers 1 to 11 are tested in rising order; a job's 12 and 13 come before them.
+/// The numbers 1 to 11 are tested in rising order; 15 comes straight after 1, and a job's 12 and 13
+/// come before them.
 pub fn order_of_tests(tally: &mut Tally, _: &mut Random) {
     let others = [refusals::TABLE, refusals::RENDER, &refusals::JOB[2..]];
     for tests in Call::ALL.map(Call::tests).into_iter().chain(others) {
         let low: Vec<u32> = tests.iter().copied().filter(|&number| number <= 11).collect();
         tally.equal(tests, low.windows(2).all(|pair| pair[0] < pair[1]), true);
+    }
+    for tests in [refusals::COMPOSE, refusals::CYCLE] {
+        tally.equal(tests, &tests[..3], &[1, 15, 2]);
     }
     tally.equal("a job", &refusals::JOB[..2], &[12, 13]);
 }
@@ -61,17 +65,17 @@ fn checked<L: Library>(tally: &mut Tally, random: &mut Random, call: Call, broke
 
 /// Compares what an accepted call left with what the definitions say.
 pub fn accepted(tally: &mut Tally, call: Call, input: &Input, left: Left) {
-    let Input { route, p, outer, inner, out, .. } = input;
+    let Input { p, outer, inner, out, .. } = input;
     let n = input.n as usize;
     let (value, weight) = match call {
-        Call::Compose => (substitution(*p, outer, inner, n), weight(*route, *p, outer.len(), n)),
+        Call::Compose => (substitution(*p, outer, inner, n), input.weight(outer.len())),
         Call::Reverse => {
             let restored = substitution(*p, inner, &left.out, n);
             tally.equal((call, input, &left), (restored, left.out[0]), (identity(n), 0));
             (left.out.clone(), 0)
         }
         Call::Open => (identity(n), 0),
-        Call::Cycle => (substitution(*p, inner, out, n), weight(*route, *p, inner.len(), n)),
+        Call::Cycle => (substitution(*p, inner, out, n), input.weight(inner.len())),
     };
     tally.equal((call, input), left, call.accepted(input, value, weight));
 }

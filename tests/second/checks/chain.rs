@@ -7,6 +7,7 @@ use super::library::{Call, Input, Library};
 use super::reversion::identity;
 use super::support::{modulus, seen, Tally};
 use crate::plain::chain::Chain;
+use crate::plain::primes::LARGEST_PRIME;
 use crate::plain::random::Random;
 use crate::plain::substitution::substitution;
 
@@ -22,6 +23,31 @@ pub fn composition<L: Library>(tally: &mut Tally, random: &mut Random) {
         full += usize::from(cycles == MOST_CYCLES);
     }
     seen(tally, "full chains", full);
+}
+
+/// Full chains in which every other cycle is by route 2, each time with another block length; every
+/// length has its turn. Between them stand cycles by the other routes.
+pub fn changing_lengths<L: Library>(tally: &mut Tally, random: &mut Random) {
+    for (p, turn) in [2, 7, LARGEST_PRIME].into_iter().flat_map(|p| [(p, 0), (p, 1)]) {
+        let n = random.count(2, 8);
+        let mut running = random.buffer(n);
+        let (mut chain, _) = L::open(p, n as u64, &mut running);
+        for cycle in 1..=MOST_CYCLES as u64 {
+            let mut input = cycle_input(random, chain, &running);
+            if cycle % 2 == turn {
+                (input.route, input.block) = (2, Some(cycle));
+                let count = random.count(1, 3 * cycle as usize);
+                input.inner = without_constant(random, p, count);
+                input.lend(random, Call::Cycle);
+            } else if input.route == 2 {
+                input.route = random.pick(&[1, 3, 4]);
+            }
+            let left = Call::Cycle.make::<L>(&input);
+            (chain, running) = (left.chain, left.out.clone());
+            accepted(tally, Call::Cycle, &input, left);
+        }
+        tally.equal((p, n, "full"), chain.done, 64);
+    }
 }
 
 /// Opens a chain and makes so many calls of cycles, about a fifth of them broken. Gives back how
@@ -58,13 +84,13 @@ fn chain_of<L: Library>(
     cycles.len()
 }
 
-/// A cycle for this record and this running series.
+/// A cycle for this record and this running series, by a route and with a block length of its own.
 pub fn cycle_input(random: &mut Random, chain: Chain, running: &[u32]) -> Input {
     let Chain { modulus: p, order: n, done } = chain;
     let count = random.count(1, running.len() + 2);
     let (route, inner) = (random.route(), without_constant(random, p, count));
-    let out = running.to_vec();
-    let mut input = Input { route, p, n, done, inner, out, ..Input::default() };
+    let (block, out) = (random.block_of(route), running.to_vec());
+    let mut input = Input { route, block, p, n, done, inner, out, ..Input::default() };
     input.lend(random, Call::Cycle);
     input
 }

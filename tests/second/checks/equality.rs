@@ -2,7 +2,7 @@
 //! coefficients, rounded up, in powers of (z - c).
 
 use super::library::Library;
-use super::support::{add_power, compose, lists_up_to, modulus, seen, Case, Tally};
+use super::support::{add_power, compose_in_blocks, lists_up_to, modulus, seen, Case, Tally};
 use crate::plain::chain::Chain;
 use crate::plain::counts::quotient_rounded_up;
 use crate::plain::random::Random;
@@ -11,6 +11,13 @@ use crate::plain::taylor::{coefficients, constant_term, deciding_coefficients, l
 use crate::plain::{field, products, refusals};
 
 const PAIRS: usize = 8000;
+
+/// How an answer is come by: the route, and a block length or none.
+type Way = (u64, Option<u64>);
+
+/// Route 2 with block lengths that divide a short list into one block, two or more, and the longest.
+const LENGTHS: [Way; 6] =
+    [(2, Some(1)), (2, Some(2)), (2, Some(3)), (2, Some(4)), (2, Some(5)), (2, Some(64))];
 
 /// The coefficients in powers of (z - c) give back f when z - c is put for the powers; v is from 1
 /// to n, the coefficients of g from 1 to v - 1 are zero, and that of v is not, unless v is n.
@@ -30,28 +37,52 @@ pub fn taylor(tally: &mut Tally, random: &mut Random) {
     }
 }
 
-/// Pairs of two composes, of a compose and a cycle, and of two cycles, by routes that may differ;
-/// each kind with equal and with different answers.
+/// Pairs by routes and with block lengths that may differ.
 pub fn random_pairs<L: Library>(tally: &mut Tally, random: &mut Random) {
-    let mut pairs = [[0; 2]; 3];
     let mut different_routes = 0;
+    pairs::<L>(tally, random, |random| {
+        let routes = [random.route(), random.route()];
+        different_routes += usize::from(routes[0] != routes[1]);
+        routes.map(|route| (route, random.block_of(route)))
+    });
+    seen(tally, "pairs by different routes", different_routes);
+}
+
+/// Pairs by route 2 with two different block lengths.
+pub fn random_lengths<L: Library>(tally: &mut Tally, random: &mut Random) {
+    pairs::<L>(tally, random, |random| {
+        let first = random.block();
+        let mut other = random.block();
+        while other == first {
+            other = random.block();
+        }
+        [first, other].map(|block| (2, Some(block)))
+    });
+}
+
+/// Pairs of two composes, of a compose and a cycle, and of two cycles, come by in the ways that are
+/// drawn; each kind with equal and with different answers.
+fn pairs<L: Library>(
+    tally: &mut Tally,
+    random: &mut Random,
+    mut draw: impl FnMut(&mut Random) -> [Way; 2],
+) {
+    let mut pairs = [[0; 2]; 3];
     for _ in 0..PAIRS {
         let cases = pair(random);
         let deciding = |case: &Case| deciding_coefficients(case.p, &case.f, &case.g, case.n);
         let agree = deciding(&cases[0]) == deciding(&cases[1]);
-        let routes = [random.route(), random.route()];
+        let ways = draw(random);
         let chained = [in_chain(random, &cases[0]), in_chain(random, &cases[1])];
-        let mut of = |i: usize| answer::<L>(tally, random, routes[i], chained[i], &cases[i]);
+        let mut of = |i: usize| answer::<L>(tally, random, ways[i], chained[i], &cases[i]);
         let same = of(0) == of(1);
-        tally.equal((routes, chained, &cases), same, agree);
+        tally.equal((ways, chained, &cases), same, agree);
         pairs[usize::from(chained[0]) + usize::from(chained[1])][usize::from(agree)] += 1;
-        different_routes += usize::from(routes[0] != routes[1]);
     }
     for (cycles, [unequal, equal]) in pairs.into_iter().enumerate() {
         seen(tally, &format!("pairs with {cycles} cycles, equal answers"), equal);
         seen(tally, &format!("pairs with {cycles} cycles, different answers"), unequal);
     }
-    seen(tally, "pairs by different routes", different_routes);
     let equal: usize = pairs.iter().map(|[_, equal]| equal).sum();
     let frequent = PAIRS / 4 < equal && equal < 3 * PAIRS / 4;
     tally.equal((equal, "pairs of", PAIRS, "are equal: both outcomes frequent"), frequent, true);
@@ -91,65 +122,77 @@ fn in_chain(random: &mut Random, case: &Case) -> bool {
 fn answer<L: Library>(
     tally: &mut Tally,
     random: &mut Random,
-    route: u64,
+    (route, block): Way,
     chained: bool,
     case: &Case,
 ) -> Vec<u32> {
     let (number, out) = if chained {
-        cycle::<L>(random, route, case)
+        cycle::<L>(random, (route, block), case)
     } else {
-        let (answer, out) = compose::<L>(random, route, case);
+        let (answer, out) = compose_in_blocks::<L>(random, route, block, case);
         (answer.number, out)
     };
     let value = substitution(case.p, &case.f, &case.g, case.n);
-    tally.equal((route, chained, case), (number, &out), (0, &value));
+    tally.equal((route, block, chained, case), (number, &out), (0, &value));
     out
 }
 
-fn cycle<L: Library>(random: &mut Random, route: u64, case: &Case) -> (u32, Vec<u32>) {
+fn cycle<L: Library>(random: &mut Random, (route, block): Way, case: &Case) -> (u32, Vec<u32>) {
     let n = case.n as u64;
     let mut running = products::places(&case.g, case.n);
     let mut work = random.buffer(refusals::cycle_work_places(n, case.f.len()) as usize);
     let chain = Chain { modulus: case.p, order: n, done: random.below(64) };
-    let (_, answer) = L::cycle(chain, route, &case.f, &mut running, &mut work);
+    let (_, answer) = L::cycle(chain, route, block, &case.f, &mut running, &mut work);
     (answer.number, running)
 }
 
-/// All pairs of short outer lists, with all inner lists of at most n places.
+/// All pairs of short outer lists, with all inner lists of at most n places, by every pair of routes.
 pub fn exhaustive_pairs<L: Library>(tally: &mut Tally, random: &mut Random) {
+    exhaustive::<L>(tally, random, 4, &[1, 2, 3, 4].map(|route| (route, None)));
+}
+
+/// The same by route 2, with every pair of the lengths.
+pub fn exhaustive_lengths<L: Library>(tally: &mut Tally, random: &mut Random) {
+    exhaustive::<L>(tally, random, 3, &LENGTHS);
+}
+
+/// All pairs of short outer lists, with all inner lists of at most n places, for n up to the largest.
+fn exhaustive<L: Library>(tally: &mut Tally, random: &mut Random, largest: usize, ways: &[Way]) {
     for (p, longest) in [(2, 5), (3, 3)] {
-        for n in 1..=4 {
+        for n in 1..=largest {
             for g in lists_up_to(p, n) {
-                let outers = lists_up_to(p, longest);
-                exhaustive_outer_lists::<L>(tally, random, u64::from(p), n, &g, outers);
+                let of = |f| Case { p: u64::from(p), n, f, g: g.clone() };
+                let cases = lists_up_to(p, longest).into_iter().map(of).collect();
+                exhaustive_cases::<L>(tally, random, cases, ways);
             }
         }
     }
 }
 
-/// All pairs of these outer lists, each answered by every route and compared by one of them.
-fn exhaustive_outer_lists<L: Library>(
+/// All pairs of these cases, which differ in the outer list, each answered in every way.
+fn exhaustive_cases<L: Library>(
     tally: &mut Tally,
     random: &mut Random,
-    p: u64,
-    n: usize,
-    g: &[u32],
-    outers: Vec<Vec<u32>>,
+    cases: Vec<Case>,
+    ways: &[Way],
 ) {
     let mut answers = Vec::new();
-    for (i, f) in outers.into_iter().enumerate() {
-        let case = Case { p, n, f, g: g.to_vec() };
-        let outputs = [1, 2, 3, 4].map(|route| {
-            let chained = in_chain(random, &case);
-            answer::<L>(tally, random, route, chained, &case)
-        });
-        let deciding = deciding_coefficients(p, &case.f, g, n);
-        answers.push((case.f, outputs[i % 4].clone(), deciding));
+    for case in cases {
+        let outputs: Vec<Vec<u32>> = ways
+            .iter()
+            .map(|&way| {
+                let chained = in_chain(random, &case);
+                answer::<L>(tally, random, way, chained, &case)
+            })
+            .collect();
+        let deciding = deciding_coefficients(case.p, &case.f, &case.g, case.n);
+        answers.push((case, outputs, deciding));
     }
-    for (f, out, deciding) in &answers {
-        for (other_f, other_out, other_deciding) in &answers {
+    for (case, outputs, deciding) in &answers {
+        for (other_case, other_outputs, other_deciding) in &answers {
             let agree = deciding == other_deciding;
-            tally.equal((p, n, g, f, other_f), out == other_out, agree);
+            let as_ruled = |out| other_outputs.iter().all(|other| (out == other) == agree);
+            tally.equal((case, &other_case.f, agree), outputs.iter().all(as_ruled), true);
         }
     }
 }

@@ -4,11 +4,12 @@
 use super::broken::{first, put_too_large, rising, some, UNFIT_MODULI};
 use super::library::Program;
 use super::render::{accepted_text, refused_text};
-use super::support::{modulus, weight, Tally};
+use super::support::{modulus, seen, weight, Tally};
 use crate::plain::primes::LARGE_PRIMES;
 use crate::plain::random::Random;
 use crate::plain::refusals::JOB;
 use crate::plain::substitution::substitution;
+use crate::plain::weights;
 
 const FILES: usize = 4000;
 
@@ -160,6 +161,21 @@ pub fn large_primes<P: Program>(tally: &mut Tally, random: &mut Random) {
         let file = File::write(random, [1, p as u32, 4], &[0, 1], &[0]);
         tally.equal(&file, P::answer(&file.bytes()), refused_text(2));
     }
+}
+
+/// Route 2 with every count of outer coefficients: the weight is that of block length 4, which mostly
+/// differs from those of other lengths.
+pub fn block_length<P: Program>(tally: &mut Tally, random: &mut Random) {
+    let mut different = 0;
+    for m in 0..=64 {
+        let (p, n) = (modulus(random), random.count(1, 64));
+        let (f, g) = (random.list(p, m), random.list(p, n));
+        let file = File::write(random, [2, p as u32, n as u32], &f, &g);
+        tally.equal(&file, P::answer(&file.bytes()), composed_text(2, p, n, &f, &g));
+        let other = |length| weights::ranged(m as u64, n as u64, length) != weight(2, p, m, n);
+        different += (1..=64).filter(|&length| other(length)).count();
+    }
+    seen(tally, "block lengths with another weight", different);
 }
 
 /// Every beginning of a file: 13 until the header and both lists lie in it, then the whole answer.

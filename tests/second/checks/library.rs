@@ -4,14 +4,16 @@
 use crate::plain::calls::{self, Answer};
 use crate::plain::chain::Chain;
 use crate::plain::refusals::{self, Tests};
-use crate::plain::{job, render};
+use crate::plain::{job, render, routes, weights};
 use std::fmt::{Debug, Formatter, Result};
 
 /// The calls with the buffers they are lent. A route, a modulus, the cycles done and an index of the
-/// table fit in 32 bits.
+/// table fit in 32 bits. Compose and a cycle are two calls each: one takes a block length, and where
+/// there is none the other is made.
 pub trait Library {
     fn compose(
         route: u64,
+        block: Option<u64>,
         p: u64,
         n: u64,
         f: &[u32],
@@ -27,6 +29,7 @@ pub trait Library {
     fn cycle(
         chain: Chain,
         route: u64,
+        block: Option<u64>,
         list: &[u32],
         running: &mut [u32],
         work: &mut [u32],
@@ -51,6 +54,7 @@ pub struct Plain;
 impl Library for Plain {
     fn compose(
         route: u64,
+        block: Option<u64>,
         p: u64,
         n: u64,
         f: &[u32],
@@ -58,7 +62,7 @@ impl Library for Plain {
         out: &mut [u32],
         work: &mut [u32],
     ) -> Answer {
-        calls::compose(route, p, n, f, g, out, work)
+        calls::compose(route, given(block), p, n, f, g, out, work)
     }
 
     fn reverse(p: u64, n: u64, g: &[u32], out: &mut [u32], work: &mut [u32]) -> Answer {
@@ -72,11 +76,12 @@ impl Library for Plain {
     fn cycle(
         chain: Chain,
         route: u64,
+        block: Option<u64>,
         list: &[u32],
         running: &mut [u32],
         work: &mut [u32],
     ) -> (Chain, Answer) {
-        chain.cycle(route, list, running, work)
+        chain.cycle(route, given(block), list, running, work)
     }
 
     fn table(index: u64) -> (u32, u32) {
@@ -88,6 +93,11 @@ impl Library for Plain {
     }
 }
 
+/// The block length, or the one where none is given.
+fn given(block: Option<u64>) -> u64 {
+    block.unwrap_or(routes::BLOCK_LENGTH)
+}
+
 impl Program for Plain {
     fn answer(file: &[u8]) -> Vec<u8> {
         job::run(file)
@@ -96,10 +106,12 @@ impl Program for Plain {
 
 /// What a call is given. The inner list is the one that 5 names, so in reverse the series and in a
 /// cycle the cycle list; the output is the one that 6 names, so in a chain the running series. The
-/// chain record of a cycle is p, n and the cycles done.
+/// chain record of a cycle is p, n and the cycles done. Without a block length the call that takes
+/// none is made.
 #[derive(Clone, Default)]
 pub struct Input {
     pub route: u64,
+    pub block: Option<u64>,
     pub p: u64,
     pub n: u64,
     pub done: u64,
@@ -113,7 +125,16 @@ impl Debug for Input {
     /// Shows all but the content of the work buffer.
     fn fmt(&self, formatter: &mut Formatter) -> Result {
         let shown = (&self.outer, &self.inner, &self.out, self.work.len());
-        write!(formatter, "{:?} {shown:?}", (self.route, self.p, self.n, self.done))
+        let numbers = (self.route, self.block, self.p, self.n, self.done);
+        write!(formatter, "{numbers:?} {shown:?}")
+    }
+}
+
+impl Input {
+    /// The weight by the rule of the route, for an outer list of m places; where no block length is
+    /// given it is 4.
+    pub fn weight(&self, m: usize) -> u64 {
+        weights::by_number(self.route, self.p, m as u64, self.n, self.block.unwrap_or(4))
     }
 }
 
@@ -170,16 +191,16 @@ impl Call {
 
     /// Makes the call on copies of the buffers.
     pub fn make<L: Library>(self, input: &Input) -> Left {
-        let Input { route, p, n, done, outer, inner, mut out, mut work } = input.clone();
+        let Input { route, block, p, n, done, outer, inner, mut out, mut work } = input.clone();
         let record = Chain { modulus: p, order: n, done };
         let without_record = |answer| (Chain::default(), answer);
         let (chain, answer) = match self {
             Call::Compose => {
-                without_record(L::compose(route, p, n, &outer, &inner, &mut out, &mut work))
+                without_record(L::compose(route, block, p, n, &outer, &inner, &mut out, &mut work))
             }
             Call::Reverse => without_record(L::reverse(p, n, &inner, &mut out, &mut work)),
             Call::Open => L::open(p, n, &mut out),
-            Call::Cycle => L::cycle(record, route, &inner, &mut out, &mut work),
+            Call::Cycle => L::cycle(record, route, block, &inner, &mut out, &mut work),
         };
         Left { answer, chain, out, work }
     }

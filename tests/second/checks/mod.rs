@@ -1,5 +1,6 @@
 //! The checks of the plain implementation, one module for each subject.
 
+pub mod blocks;
 pub mod broken;
 pub mod calls;
 pub mod chain;
@@ -13,3 +14,4 @@ pub mod routes;
 pub mod settled;
 pub mod support;
 pub mod traps;
+pub mod wrong;

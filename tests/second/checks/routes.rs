@@ -22,15 +22,18 @@ pub fn values_and_weights(tally: &mut Tally, random: &mut Random) {
     }
 }
 
-/// Route 2 with other block lengths.
+/// Route 2 with every block length, for outer lists of up to five blocks.
 pub fn block_lengths(tally: &mut Tally, random: &mut Random) {
-    for _ in 0..CASES / 2 {
-        let case = Case::draw(random, 20);
-        let length = random.count(1, 12);
-        let found = routes::ranged(case.p, &case.f, &case.g, case.n, length);
-        let value = substitution(case.p, &case.f, &case.g, case.n);
-        let weight = weights::ranged(case.f.len() as u64, case.n as u64, length as u64);
-        tally.equal((length, &case), found, (value, weight));
+    for length in 1..=64 {
+        for _ in 0..CASES / 128 {
+            let mut case = Case::draw(random, 12);
+            let m = random.count(0, 5 * length);
+            case.f = random.list(case.p, m);
+            let found = routes::ranged(case.p, &case.f, &case.g, case.n, length);
+            let value = substitution(case.p, &case.f, &case.g, case.n);
+            let weight = weights::ranged(m as u64, case.n as u64, length as u64);
+            tally.equal((length, &case), found, (value, weight));
+        }
     }
 }
 
@@ -41,7 +44,7 @@ pub fn larger_cases(tally: &mut Tally, random: &mut Random) {
             let case = Case { p, n, f: random.list(p, m), g: random.list(p, n) };
             let value = substitution(p, &case.f, &case.g, n);
             for route in 1..=4 {
-                let found = routes::by_number(route, p, &case.f, &case.g, n);
+                let found = routes::by_number(route, p, &case.f, &case.g, n, 4);
                 let wanted = (value.clone(), weight(route, p, m, n));
                 tally.equal((route, &case), found, wanted);
             }

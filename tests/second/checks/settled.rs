@@ -1,8 +1,10 @@
-//! The values that the statement settles: the twelve examples, the whole case and the edges.
+//! The values that the statement settles: the twelve examples, the weights at every block length, the
+//! whole case and the edges.
 
+use super::broken::without_constant;
 use super::library::{Library, Program};
 use super::reversion::identity;
-use super::support::{compose, reverse, Case, Tally};
+use super::support::{compose, compose_in_blocks, reverse, Case, Tally};
 use crate::plain::calls::Answer;
 use crate::plain::chain::Chain;
 use crate::plain::primes::{is_prime, LARGEST_MODULUS, LARGEST_PRIME, LARGE_PRIMES};
@@ -16,6 +18,7 @@ fn case(p: u64, f: &[u32], g: &[u32], n: usize) -> Case {
 pub fn examples<L: Library>(tally: &mut Tally, random: &mut Random) {
     composed_examples::<L>(tally, random);
     weighed_examples::<L>(tally, random);
+    weighed_lengths::<L>(tally, random);
     reversed_examples::<L>(tally, random);
     for route in 1..=4 {
         for f in [&[1, 1][..], &[1, 1, 5]] {
@@ -48,6 +51,21 @@ fn weighed_examples<L: Library>(tally: &mut Tally, random: &mut Random) {
     }
 }
 
+/// Nine outer coefficients at order 4 by route 2, for any p, at every block length.
+fn weighed_lengths<L: Library>(tally: &mut Tally, random: &mut Random) {
+    for (block, p) in (1..=64).flat_map(|block| [2, 7, LARGEST_PRIME].map(|p| (block, p))) {
+        let weight = match block {
+            1..=6 | 8 => 44,
+            7 => 48,
+            _ => 32,
+        };
+        let example = case(p, &random.list(p, 9), &random.list(p, 4), 4);
+        let found = compose_in_blocks::<L>(random, 2, Some(block), &example);
+        let value = substitution(p, &example.f, &example.g, 4);
+        tally.equal((block, &example), found, (Answer { number: 0, weight }, value));
+    }
+}
+
 fn reversed_examples<L: Library>(tally: &mut Tally, random: &mut Random) {
     let series = [0, 1, 1];
     for (p, value) in [(7, vec![0, 1, 6, 2]), (2, vec![0, 1, 1, 0])] {
@@ -72,6 +90,7 @@ pub fn edges<L: Library>(tally: &mut Tally, random: &mut Random) {
     edge_of_order::<L>(tally, random);
     edges_of_lists::<L>(tally, random);
     edge_of_cycles::<L>(tally, random);
+    edges_of_blocks::<L>(tally, random);
 }
 
 /// The edges of the table and of rendering.
@@ -120,7 +139,7 @@ fn every_call<L: Library>(tally: &mut Tally, random: &mut Random, p: u64, n: usi
     tally.equal(("open", p, n), (answer.number, running == identity(n)), wanted);
     let (mut running, chain) = (identity(n), Chain { modulus: p, order: n as u64, done: 0 });
     let mut work = random.buffer(refusals::cycle_work_places(n as u64, series.len()) as usize);
-    let (_, answer) = L::cycle(chain, random.route(), &series, &mut running, &mut work);
+    let (_, answer) = L::cycle(chain, random.route(), None, &series, &mut running, &mut work);
     let value = substitution(p, &series, &identity(n), n);
     tally.equal(("cycle", p, n), (answer.number, running == value), wanted);
 }
@@ -137,7 +156,7 @@ fn edges_of_lists<L: Library>(tally: &mut Tally, random: &mut Random) {
     let (f, g) = ([6, 6, 6], [6, 6]);
     for (missing, number) in [(0, 0), (1, 7)] {
         let mut work = random.buffer(128 * 4 + 8 * 3 - missing);
-        let found = L::compose(1, 7, 4, &f, &g, &mut [0; 4], &mut work).number;
+        let found = L::compose(1, None, 7, 4, &f, &g, &mut [0; 4], &mut work).number;
         tally.equal((missing, "places of work missing"), found, number);
     }
     for (f, g) in [([6, 7], [6, 6]), ([6, 6], [7, 6])] {
@@ -154,8 +173,26 @@ fn edge_of_cycles<L: Library>(tally: &mut Tally, random: &mut Random) {
     for cycle in 1..=65 {
         let number = if cycle <= 64 { 0 } else { 11 };
         let mut work = random.buffer(refusals::cycle_work_places(5, 3) as usize);
-        let (next, answer) = L::cycle(chain, random.route(), &[0, 1, 1], &mut running, &mut work);
+        let (next, answer) =
+            L::cycle(chain, random.route(), None, &[0, 1, 1], &mut running, &mut work);
         tally.equal(("cycle", cycle), (answer.number, next.done), (number, cycle.min(64)));
         chain = next;
+    }
+}
+
+/// By route 2 the block lengths 1 and 64 are accepted, and 0 and 65 give 15; every other route accepts
+/// all four.
+fn edges_of_blocks<L: Library>(tally: &mut Tally, random: &mut Random) {
+    for (route, block) in (1..=4).flat_map(|route| [0, 1, 64, 65].map(|block| (route, block))) {
+        let number = if route == 2 && [0, 65].contains(&block) { 15 } else { 0 };
+        let example = case(7, &without_constant(random, 7, 70), &without_constant(random, 7, 4), 4);
+        let value = substitution(7, &example.f, &example.g, 4);
+        let wanted = (number, number == 0);
+        let (answer, out) = compose_in_blocks::<L>(random, route, Some(block), &example);
+        tally.equal((route, block, "compose"), (answer.number, out == value), wanted);
+        let (mut running, chain) = (example.g.clone(), Chain { modulus: 7, order: 4, done: 0 });
+        let mut work = random.buffer(refusals::cycle_work_places(4, 70) as usize);
+        let (_, answer) = L::cycle(chain, route, Some(block), &example.f, &mut running, &mut work);
+        tally.equal((route, block, "cycle"), (answer.number, running == value), wanted);
     }
 }

@@ -16,11 +16,12 @@ const DEFAULT_SEED: u64 = 1;
 /// How many failures of a group are shown with their input.
 const SHOWN: u64 = 3;
 
-/// The comparisons of one group.
+/// The comparisons of one group; a quiet tally shows no failures.
 #[derive(Default)]
 pub struct Tally {
     pub passed: u64,
     pub failed: u64,
+    pub quiet: bool,
 }
 
 impl Tally {
@@ -30,7 +31,7 @@ impl Tally {
             return;
         }
         self.failed += 1;
-        if self.failed <= SHOWN {
+        if self.failed <= SHOWN && !self.quiet {
             println!("failed: {input:?}\n  found  {found:?}\n  wanted {wanted:?}");
         }
     }
@@ -136,12 +137,22 @@ pub fn weight(route: u64, p: u64, m: usize, n: usize) -> u64 {
     weights::by_number(route, p, m as u64, n as u64, 4)
 }
 
-/// Compose with dirty buffers of the sizes required.
+/// Compose without a block length, with dirty buffers of the sizes required.
 pub fn compose<L: Library>(random: &mut Random, route: u64, case: &Case) -> (Answer, Vec<u32>) {
+    compose_in_blocks::<L>(random, route, None, case)
+}
+
+/// Compose with this block length or none, with dirty buffers of the sizes required.
+pub fn compose_in_blocks<L: Library>(
+    random: &mut Random,
+    route: u64,
+    block: Option<u64>,
+    case: &Case,
+) -> (Answer, Vec<u32>) {
     let n = case.n as u64;
     let mut out = random.buffer(case.n);
     let mut work = random.buffer(refusals::work_places(n, case.f.len()) as usize);
-    let answer = L::compose(route, case.p, n, &case.f, &case.g, &mut out, &mut work);
+    let answer = L::compose(route, block, case.p, n, &case.f, &case.g, &mut out, &mut work);
     (answer, out)
 }
 

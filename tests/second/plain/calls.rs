@@ -1,5 +1,6 @@
 //! The calls compose, reverse and table, with the buffers they are lent. A refused call alters no
-//! buffer. An accepted one fills the output, clears the work places it may use and no others.
+//! buffer. An accepted one fills the output, clears the work places it may use and no others. The
+//! block length is that of route 2; a call without one is the call with `routes::BLOCK_LENGTH`.
 
 use super::{primes, refusals, reversion, routes};
 
@@ -11,6 +12,7 @@ pub struct Answer {
 
 pub fn compose(
     route: u64,
+    block: u64,
     p: u64,
     n: u64,
     f: &[u32],
@@ -18,11 +20,11 @@ pub fn compose(
     out: &mut [u32],
     work: &mut [u32],
 ) -> Answer {
-    let number = refusals::compose(route, p, n, f, g, out.len(), work.len());
+    let number = refusals::compose(route, block, p, n, f, g, out.len(), work.len());
     if number != 0 {
         return Answer { number, weight: 0 };
     }
-    let (value, weight) = routes::by_number(route, p, f, g, n as usize);
+    let (value, weight) = routes::by_number(route, p, f, g, n as usize, block);
     out.copy_from_slice(&value);
     work[..refusals::work_places(n, f.len()) as usize].fill(0);
     Answer { number, weight }

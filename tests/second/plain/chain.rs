@@ -23,20 +23,23 @@ impl Chain {
         (Chain { modulus, order, done: 0 }, answer)
     }
 
-    /// Makes the running series S into C(S) for the cycle list C, by the route named.
+    /// Makes the running series S into C(S) for the cycle list C, by the route named, with this
+    /// block length for route 2.
     pub fn cycle(
         self,
         route: u64,
+        block: u64,
         list: &[u32],
         running: &mut [u32],
         work: &mut [u32],
     ) -> (Chain, Answer) {
         let Chain { modulus, order, done } = self;
-        let number = refusals::cycle(route, modulus, order, done, list, running, work.len());
+        let number = refusals::cycle(route, block, modulus, order, done, list, running, work.len());
         if number != 0 {
             return (self, Answer { number, weight: 0 });
         }
-        let (value, weight) = routes::by_number(route, modulus, list, running, running.len());
+        let places = running.len();
+        let (value, weight) = routes::by_number(route, modulus, list, running, places, block);
         running.copy_from_slice(&value);
         work[..refusals::cycle_work_places(order, list.len()) as usize].fill(0);
         (Chain { done: done + 1, ..self }, Answer { number, weight })

@@ -72,12 +72,13 @@ fn words(bytes: &[u8]) -> Vec<u32> {
     bytes.chunks(4).map(word).collect()
 }
 
-/// The bytes that the job program prints for a file.
+/// The bytes that the job program prints for a file, which has no block length of its own.
 pub fn run(file: &[u8]) -> Vec<u8> {
     let number = refusals::job(file);
     match Job::read(file) {
         Some(Job { route, modulus, order, outer, inner }) if number == 0 => {
-            let (value, weight) = routes::by_number(route, modulus, &outer, &inner, order as usize);
+            let (n, length) = (order as usize, routes::BLOCK_LENGTH);
+            let (value, weight) = routes::by_number(route, modulus, &outer, &inner, n, length);
             render::text(0, order, weight, &value)
         }
         _ => render::text(number, 0, 0, &[]),

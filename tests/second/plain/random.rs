@@ -41,6 +41,20 @@ impl Random {
         1 + self.below(4)
     }
 
+    /// A block length that route 2 takes, often a short one.
+    pub fn block(&mut self) -> u64 {
+        let longest = self.pick(&[9, 64]);
+        1 + self.below(longest)
+    }
+
+    /// A block length that this route takes, or none: route 2 takes 1 to 64, another route any.
+    pub fn block_of(&mut self, route: u64) -> Option<u64> {
+        let fit = self.block();
+        let any = self.pick(&[fit, 0, 65, u64::from(u32::MAX), u64::MAX]);
+        let taken = if route == 2 { fit } else { any };
+        (!self.once_in(3)).then_some(taken)
+    }
+
     /// A prime above 2^31: one of `LARGE_PRIMES`, or the first one from any such number downwards.
     pub fn large_prime(&mut self) -> u64 {
         let first = LARGE_PRIMES[0];

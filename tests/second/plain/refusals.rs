@@ -7,6 +7,8 @@ use super::primes::{is_prime, LARGEST_MODULUS, TABLE_LENGTH};
 use super::render;
 use super::taylor::constant_term;
 
+pub const SHORTEST_BLOCK: u64 = 1;
+pub const LONGEST_BLOCK: u64 = 64;
 pub const LARGEST_ORDER: u64 = 4096;
 pub const LONGEST_LIST: usize = 4096;
 pub const MOST_CYCLES: u64 = 64;
@@ -14,14 +16,14 @@ pub const MOST_CYCLES: u64 = 64;
 /// The numbers that a call tests, in the order in which it tests them.
 pub type Tests = &'static [u32];
 
-pub const COMPOSE: Tests = &[1, 2, 3, 4, 5, 6, 7, 8];
+pub const COMPOSE: Tests = &[1, 15, 2, 3, 4, 5, 6, 7, 8];
 pub const REVERSE: Tests = &[2, 3, 5, 6, 7, 8, 9];
 pub const OPEN: Tests = &[2, 3, 6];
-pub const CYCLE: Tests = &[1, 2, 3, 5, 6, 7, 8, 10, 11];
+pub const CYCLE: Tests = &[1, 15, 2, 3, 5, 6, 7, 8, 10, 11];
 pub const TABLE: Tests = &[14];
 pub const RENDER: Tests = &[3, 6, 7];
 
-/// The lists and buffers of a job can't meet 4 to 7.
+/// The lists and buffers of a job can't meet 4 to 7, and its block length not 15.
 pub const JOB: Tests = &[12, 13, 1, 2, 3, 8];
 
 /// The first of these numbers whose test fires, or 0.
@@ -32,6 +34,11 @@ pub fn first(tests: Tests, fires: impl Fn(u32) -> bool) -> u32 {
 /// Number 1.
 fn route_unknown(route: u64) -> bool {
     !(1..=4).contains(&route)
+}
+
+/// Number 15.
+fn block_unfit(route: u64, block: u64) -> bool {
+    route == 2 && !(SHORTEST_BLOCK..=LONGEST_BLOCK).contains(&block)
 }
 
 /// Number 2.
@@ -76,6 +83,7 @@ pub fn cycle_work_places(n: u64, m: usize) -> u64 {
 
 pub fn compose(
     route: u64,
+    block: u64,
     p: u64,
     n: u64,
     f: &[u32],
@@ -85,6 +93,7 @@ pub fn compose(
 ) -> u32 {
     first(COMPOSE, |number| match number {
         1 => route_unknown(route),
+        15 => block_unfit(route, block),
         2 => modulus_unfit(p),
         3 => order_unfit(n),
         4 => too_long(f),
@@ -121,6 +130,7 @@ pub fn open(p: u64, n: u64, running_places: usize) -> u32 {
 
 pub fn cycle(
     route: u64,
+    block: u64,
     p: u64,
     n: u64,
     done: u64,
@@ -130,6 +140,7 @@ pub fn cycle(
 ) -> u32 {
     first(CYCLE, |number| match number {
         1 => route_unknown(route),
+        15 => block_unfit(route, block),
         2 => modulus_unfit(p),
         3 => order_unfit(n),
         5 => too_long(list),

@@ -5,14 +5,22 @@ use super::counts::quotient_rounded_up;
 use super::field;
 use super::products::{places, product, product_in_two_variables, quotient, spread, sum};
 
-/// The block length of route 2 in the calls.
-pub const BLOCK_LENGTH: usize = 4;
+/// The block length of route 2 where none is given.
+pub const BLOCK_LENGTH: u64 = 4;
 
-/// f(g) modulo x^n and the weight, by the route with this number, from 1 to 4.
-pub fn by_number(route: u64, p: u64, f: &[u32], g: &[u32], n: usize) -> (Vec<u32>, u64) {
+/// f(g) modulo x^n and the weight, by the route with this number, from 1 to 4, with this block
+/// length for route 2.
+pub fn by_number(
+    route: u64,
+    p: u64,
+    f: &[u32],
+    g: &[u32],
+    n: usize,
+    length: u64,
+) -> (Vec<u32>, u64) {
     match route {
         1 => horner(p, f, g, n),
-        2 => ranged(p, f, g, n, BLOCK_LENGTH),
+        2 => ranged(p, f, g, n, length as usize),
         3 => bernstein(p, f, g, n),
         4 => kinoshita_li(p, f, g, n),
         _ => panic!("route {route}"),
@@ -42,7 +50,7 @@ fn horner_of_series(
     (value, weight)
 }
 
-/// Route 2: blocks of f by Horner, then neighbours joined level by level.
+/// Route 2: blocks of f of this length by Horner, then neighbours joined level by level.
 pub fn ranged(p: u64, f: &[u32], g: &[u32], n: usize, length: usize) -> (Vec<u32>, u64) {
     let blocks = f.chunks(length).map(|block| horner(p, block, g, n));
     let (mut values, weights): (Vec<_>, Vec<_>) = blocks.unzip();

@@ -1,6 +1,7 @@
 -- The proof of the cycle of calls {join_parts, level, part_value}. Assumes nothing.
 use Prim.Native.Nat.{ℕ, suc, _+_, _-_, _^_, _<_}
 use borrow.Author.Needs.{needs}
+use Rattle.buffer.specs.Segments.{copy-down}
 use native.Mathlib.Omega.{arith}
 use mathlib.Core.Path.{_≡_}
 use Rattle.bernstein.specs.Level.{level-constant}
@@ -38,7 +39,7 @@ use Rattle.bernstein.proofs.+join_parts+level+part_value.Lts-join_parts
 use Rattle.bernstein.proofs.constant.Reads as constant-reads
 use Rattle.bernstein.proofs.join.Reads as join-reads
 use Rattle.bernstein.proofs.prepare.Reads as prepare-reads
-use Rattle.buffer.proofs.move_down.Reads as move-down-reads
+use Rattle.buffer.proofs.copy_part.Reads as copy-part-reads
 use Rattle.number.proofs.rounded_up.Reads as rounded-up-reads
 use Rattle.parts.proofs.part.Reads as part-reads
 use Rattle.parts.proofs.spread.Reads as spread-reads
@@ -73,8 +74,8 @@ module _ (t : ℕ) where
     top-part-reads.Learnt,
     part-value-below t,
     part-value.Post,
-    move-down-reads.Asked,
-    move-down-reads.Learnt,
+    copy-part-reads.Asked,
+    copy-part-reads.Learnt,
     join-reads.Asked,
     join-reads.Learnt,
     plus-reads.Asked,
@@ -200,11 +201,11 @@ module _ (t : ℕ) where
         prepared-ready (prepared (c .before .before .before .before)) _ (omega (arith, c .before .top-part .ensures, start .pre .1 .1)),
       )
 
-  join-parts-add-move-down : join-parts-lts.Need-add-move-down join-parts-calls (join-parts-at t) join-parts.Post join-parts-Inv join-parts-μ
-  join-parts-add-move-down c = search needs
+  join-parts-add-copy-part : join-parts-lts.Need-add-copy-part join-parts-calls (join-parts-at t) join-parts.Post join-parts-Inv join-parts-μ
+  join-parts-add-copy-part c = search needs
 
-  join-parts-move-down-requires : join-parts-lts.Need-move-down-requires join-parts-calls (join-parts-at t) join-parts.Post join-parts-Inv join-parts-μ
-  join-parts-move-down-requires c κs = search needs
+  join-parts-copy-part-requires : join-parts-lts.Need-copy-part-requires join-parts-calls (join-parts-at t) join-parts.Post join-parts-Inv join-parts-μ
+  join-parts-copy-part-requires c κs = copy-down (search needs) (search needs)
 
   -- the top part is joined
   top-joined : (c : join-parts-lts.After-slice-known4 join-parts-calls (join-parts-at t) join-parts.Post join-parts-Inv join-parts-μ)
@@ -212,12 +213,12 @@ module _ (t : ℕ) where
       let top = value .before .before in
       let args = top .before .before .before .before .before .before .args in
       PartsJoined (args .p) (args .n) (args .m) (args .w .now) (top .top-part .result)
-      (c .before .before .move-down .last .0) (value .part-value .result .places))
+      (c .before .before .copy-part .last .0) (value .part-value .result .places))
   top-joined c =
       let value = c .before .before .before .before .before .before in
       let top = value .before .before in
       let prepare = top .before .before .before in
-      parts-first (prepared prepare) (top .top-part .ensures) (value .part-value .ensures) (c .before .before .move-down .ensures)
+      parts-first (prepared prepare) (top .top-part .ensures) (value .part-value .ensures) (c .before .before .copy-part .ensures)
 
   join-parts-loop-holds : join-parts-lts.Need-loop-holds join-parts-calls (join-parts-at t) join-parts.Post join-parts-Inv join-parts-μ
   join-parts-loop-holds c = parts-rebased (top-joined c)
@@ -280,7 +281,7 @@ pub +join-parts+level+part-value-spec : {M : Type 1} → statement M
     close μ-join-parts μ-level μ-part-value
     (λ t. join-parts-lts.spec (join-parts-calls t) (join-parts-at t) join-parts.Post (join-parts-Inv t) (join-parts-μ t)
     (join-parts-add-value t) (join-parts-prepare-requires t) (join-parts-top-part-requires t)
-    (join-parts-part-value-requires t) (join-parts-add-move-down t) (join-parts-move-down-requires t)
+    (join-parts-part-value-requires t) (join-parts-add-copy-part t) (join-parts-copy-part-requires t)
     (join-parts-loop-holds t) (join-parts-sub-j t) (join-parts-part-value-requires-2 t)
     (join-parts-join-requires t) (join-parts-plus-requires t) (join-parts-plus-requires-2 t)
     (join-parts-loop-less t) (join-parts-loop-again t) (join-parts-same-length t)

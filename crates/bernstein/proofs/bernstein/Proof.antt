@@ -1,5 +1,6 @@
 -- `bernstein::bernstein` meets its contract. Assumes nothing.
 use borrow.Author.Needs.{needs}
+use Rattle.buffer.specs.Segments.{copy-down}
 use native.Mathlib.Omega.{arith}
 use Prim.Native.Nat.{_+_}
 use mathlib.Core.Path.{_∙_}
@@ -30,24 +31,17 @@ level-requires c κs =
       room = omega (arith, start .pre .0 .enough, put .put .kept .1 .1 .0, put2 .put2 .kept .1 .1 .0);
     }
 
-add-move-down : tie.Need-add-move-down
-add-move-down c = search needs
+add-copy-part : tie.Need-add-copy-part
+add-copy-part c = search needs
 
-move-down-requires : tie.Need-move-down-requires
-move-down-requires c κs =
+copy-part-requires : tie.Need-copy-part-requires
+copy-part-requires c κs =
     let level = c .before .before .before in
     let put2 = level .before .before .before .before in
     let put = put2 .before .before .before .before in
-    let start = put .before .before .before .before .before in (
-      omega arith,
-      omega (
-        arith,
-        start .pre .0 .enough,
-        level .level .ensures .within .size,
-        put2 .put2 .kept .1 .1 .0,
-        put .put .kept .1 .1 .0,
-      ),
-    )
+    let start = put .before .before .before .before .before in
+    copy-down (omega arith)
+    (omega (arith, start .pre .0 .enough, level .level .ensures .within .size, put2 .put2 .kept .1 .1 .0, put .put .kept .1 .1 .0))
 
 same-length : tie.Need-same-length
 same-length c = search needs
@@ -68,9 +62,9 @@ returns c =
     ∙ put-composed f (start .args .g .now) (start .args .w .now) (put .put .last .1 .1 .0) (start .pre .0 .modulus) (omega arith) (put .put .ensures))
     (level .level .ensures .sum)
     (omega (arith, level .level .ensures .within .size, put2 .put2 .kept .1 .1 .0, put .put .kept .1 .1 .0))
-    (moved .move-down .ensures)
+    (moved .copy-part .ensures)
 
 pub bernstein-spec : {M : Type 1} → statement M
 bernstein-spec =
     tie.close
-    (tie.spec put-requires put-requires-2 level-requires add-move-down move-down-requires same-length returns)
+    (tie.spec put-requires put-requires-2 level-requires add-copy-part copy-part-requires same-length returns)

@@ -1,6 +1,7 @@
 -- `division::divide` meets its contract: 1 - b is written, then the inverse of b, then its product with a, which is moved to a's places.
 -- Assumes nothing.
 use borrow.Author.Needs.{needs}
+use Rattle.buffer.specs.Segments.{copy-down}
 use native.Mathlib.Omega.{arith}
 use mathlib.Core.Logic.{inl}
 use Rattle.division.specs.Quotient.{divided, divided-factor}
@@ -34,8 +35,8 @@ multiply-requires c κs = record {
   right = record { source = omega arith; target = omega arith; apart = inl (omega arith) };
 }
 
-move-down-requires : tie.Need-move-down-requires
-move-down-requires c κs = search needs
+copy-part-requires : tie.Need-copy-part-requires
+copy-part-requires c κs = copy-down (search needs) (search needs)
 
 same-length : tie.Need-same-length
 same-length c = search needs
@@ -47,7 +48,7 @@ returns c =
     let inverted = multiplied .before .before .before .before in
     let put = inverted .before .before .before .before in
     let start = put .before .before .before in
-    rw (moved .move-down .ensures)
+    rw (moved .copy-part .ensures)
     (divided _ _ _ _ (start .pre .0) (start .pre .1) (omega arith) (put .complement .ensures) (inverted .inverse .ensures)
     (multiplied .multiply .ensures))
 
@@ -61,6 +62,6 @@ divide-spec =
     complement-requires
     inverse-requires
     multiply-requires
-    move-down-requires
+    copy-part-requires
     same-length
     returns)

@@ -4,11 +4,11 @@ use Rattle.two_calls.specs.TwoCalls.{compose, two-calls}
 use Rattle.equality.proofs.compose_and_compose.Statement.{statement}
 use Rattle.equality.proofs.compose_and_compose.Tie as tie
 
-compose-requires : tie.Need-compose-requires
-compose-requires c κs = search needs
+compose-blocks-requires : tie.Need-compose-blocks-requires
+compose-blocks-requires c κs = search needs
 
-compose-requires-2 : tie.Need-compose-requires-2
-compose-requires-2 c κs = search needs
+compose-blocks-requires-2 : tie.Need-compose-blocks-requires-2
+compose-blocks-requires-2 c κs = search needs
 
 same-length : tie.Need-same-length
 same-length c = search needs
@@ -25,11 +25,11 @@ same-length-4 c = search needs
 returns : tie.Need-returns
 returns c =
     let after = c .before .before .before .before in
-    let first = after .before .before .before .before .before .before .before .compose .ensures in
-    let second = after .compose2 .ensures in
+    let first = after .before .before .before .before .before .before .before .compose-blocks .ensures in
+    let second = after .compose-blocks2 .ensures in
     (first, (second, two-calls (compose first) (compose second)))
 
 pub compose-and-compose-spec : {M : Type 1} → statement M
 compose-and-compose-spec =
     tie.close
-    (tie.spec compose-requires compose-requires-2 same-length same-length-2 same-length-3 same-length-4 returns)
+    (tie.spec compose-blocks-requires compose-blocks-requires-2 same-length same-length-2 same-length-3 same-length-4 returns)

@@ -4,11 +4,11 @@ use Rattle.two_calls.specs.TwoCalls.{cycle, two-calls}
 use Rattle.equality.proofs.cycle_and_cycle.Statement.{statement}
 use Rattle.equality.proofs.cycle_and_cycle.Tie as tie
 
-cycle-requires : tie.Need-cycle-requires
-cycle-requires c κs = search needs
+cycle-blocks-requires : tie.Need-cycle-blocks-requires
+cycle-blocks-requires c κs = search needs
 
-cycle-requires-2 : tie.Need-cycle-requires-2
-cycle-requires-2 c κs = search needs
+cycle-blocks-requires-2 : tie.Need-cycle-blocks-requires-2
+cycle-blocks-requires-2 c κs = search needs
 
 same-length : tie.Need-same-length
 same-length c = search needs
@@ -25,11 +25,11 @@ same-length-4 c = search needs
 returns : tie.Need-returns
 returns c =
     let after = c .before .before .before .before in
-    let first = after .before .before .before .before .before .before .before .cycle .ensures in
-    let second = after .cycle2 .ensures in
+    let first = after .before .before .before .before .before .before .before .cycle-blocks .ensures in
+    let second = after .cycle-blocks2 .ensures in
     (first, (second, two-calls (cycle first) (cycle second)))
 
 pub cycle-and-cycle-spec : {M : Type 1} → statement M
 cycle-and-cycle-spec =
     tie.close
-    (tie.spec cycle-requires cycle-requires-2 same-length same-length-2 same-length-3 same-length-4 returns)
+    (tie.spec cycle-blocks-requires cycle-blocks-requires-2 same-length same-length-2 same-length-3 same-length-4 returns)

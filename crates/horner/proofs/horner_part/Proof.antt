@@ -9,7 +9,7 @@ use lib.Seq.{sets}
 use Rattle.definition.specs.Lists.{coefficient, tabulate}
 use Rattle.definition.specs.Substitution.{constant}
 use Rattle.horner.specs.Part.{PartOperands, Running, operands-next, operands-put, running-first, running-last, running-next, running-small, top-put}
-use Rattle.horner.specs.Steps.{running-inside, runningPlace}
+use Rattle.buffer.specs.Turns.{running-inside, runningPlace}
 use Rattle.horner.proofs.horner_part.Statement.{statement}
 use Rattle.horner.proofs.horner_part.Tie as tie
 

@@ -1,5 +1,6 @@
 -- `kinoshita_li::kinoshita_li` meets its contract. Assumes nothing.
 use borrow.Author.Needs.{needs}
+use Rattle.buffer.specs.Segments.{copy-down}
 use native.Mathlib.Omega.{arith}
 use Prim.Native.Nat.{_+_, _*_, _<_, _≤_}
 use lib.ListN.{length}
@@ -69,23 +70,23 @@ fraction-requires c κs =
     fraction-lent (args .f .now) (args .w .now) (start bound .pre) (counted bound .work-places .ensures) (some bound)
     (bound .smaller .ensures)
 
-add-move-down : tie.Need-add-move-down
-add-move-down c = omega (arith, c .before .before .before .before .before .smaller .ensures)
+add-copy-part : tie.Need-add-copy-part
+add-copy-part c = omega (arith, c .before .before .before .before .before .smaller .ensures)
 
-mul-move-down : tie.Need-mul-move-down
-mul-move-down c =
+mul-copy-part : tie.Need-mul-copy-part
+mul-copy-part c =
     let bound = c .before .before .before .before .before in
     omega (arith, inside bound, enough bound, start bound .good)
 
-move-down-requires : tie.Need-move-down-requires
-move-down-requires c κs =
+copy-part-requires : tie.Need-copy-part-requires
+copy-part-requires c κs =
     let called = c .before .before .before in
     let bound = called .before .before in
     let came = called .fraction in
     let size =
     length-front (start bound .args .w .now) (came .last .1 .1 .1 .1 .1 .0) (counted bound .work-places .result)
     (came .kept .1 .1 .1 .1 .1 .0) in
-    (omega arith, omega (arith, size, inside bound, enough bound))
+    copy-down (omega arith) (omega (arith, size, inside bound, enough bound))
 
 same-length-2 : tie.Need-same-length-2
 same-length-2 c = search needs
@@ -98,7 +99,7 @@ returns-2 c =
     let args = start bound .args in
     some-done (args .f .now) (args .w .now) (start bound .pre) (counted bound .work-places .ensures) (some bound)
     (bound .smaller .ensures) (called .fraction .kept .1 .1 .1 .1 .1 .0 ∙ length-take-le _ _ (enough bound))
-    (called .fraction .ensures) (moved .move-down .ensures)
+    (called .fraction .ensures) (moved .copy-part .ensures)
 
 pub kinoshita-li-spec : {M : Type 1} → statement M
 kinoshita-li-spec =
@@ -114,8 +115,8 @@ kinoshita-li-spec =
     slice-relend-prefix-fraction
     slice-aggregate-fraction
     fraction-requires
-    add-move-down
-    mul-move-down
-    move-down-requires
+    add-copy-part
+    mul-copy-part
+    copy-part-requires
     same-length-2
     returns-2)

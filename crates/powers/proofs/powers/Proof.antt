@@ -1,9 +1,8 @@
 -- `powers::powers` meets its contract: the first power, and its squares. Assumes nothing.
 use borrow.Author.Needs.{needs}
-use lib.Count.{leadingZeros, ones, onesIn}
-use Rattle.definition.specs.Ranged.{blockLength}
-use Rattle.definition.specs.Weight.{powerProducts}
+use Rattle.powers.specs.Digits.{power-products-few}
 use Rattle.powers.specs.Kept.{first-operands, place-bound, powers-made, powers-none}
+use native.Mathlib.Nat.{mul-le-mul}
 use native.Mathlib.Omega.{arith}
 use Prim.Native.Nat.{_-_}
 use Rattle.powers.proofs.powers.Statement.{statement}
@@ -15,20 +14,27 @@ none-requires c κs = search needs
 returns : tie.Need-returns
 returns c = rw (c .none .ensures, c .before .if1 .taken) (powers-none _ _ _ _)
 
-fourth-power-requires : tie.Need-fourth-power-requires
-fourth-power-requires c κs = first-operands (c .before .before .before .pre) (c .before .if1 .left)
+base-power-requires : tie.Need-base-power-requires
+base-power-requires c κs =
+    let pre = c .before .before .before .pre in
+    (first-operands (pre .0) (c .before .if1 .left), pre .1)
 
 squares-requires : tie.Need-squares-requires
 squares-requires c κs = search needs
 
 plus-requires : tie.Need-plus-requires
-unfolding blockLength powerProducts leadingZeros ones onesIn
 plus-requires c κs =
     let second = c .before .before in
     let first = second .before .before .before .before in
     let begin = first .before .before .before .before in
-    let bound = place-bound (begin .pre) (begin .args .rounds - 1) (omega arith) in
-    omega (arith, first .fourth-power .ensures .sum, second .squares .ensures .sum)
+    let pre = begin .pre .0 in
+    omega (
+      arith,
+      place-bound pre (begin .args .rounds - 1) (omega (arith, pre .few)),
+      first .base-power .ensures .sum,
+      mul-le-mul (power-products-few (begin .args .b) (begin .pre .1 .1)) (pre .order),
+      second .squares .ensures .sum,
+    )
 
 same-length : tie.Need-same-length
 same-length c = search needs
@@ -38,9 +44,9 @@ returns-2 c =
     let second = c .before .before .before in
     let first = second .before .before .before .before in
     rw (c .plus .ensures)
-    (powers-made (omega (arith, first .before .before .if1 .left)) (first .fourth-power .ensures) (second .squares .ensures))
+    (powers-made (omega (arith, first .before .before .if1 .left)) (first .base-power .ensures) (second .squares .ensures))
 
 pub powers-spec : {M : Type 1} → statement M
 powers-spec =
     tie.close
-    (tie.spec none-requires returns fourth-power-requires squares-requires plus-requires same-length returns-2)
+    (tie.spec none-requires returns base-power-requires squares-requires plus-requires same-length returns-2)

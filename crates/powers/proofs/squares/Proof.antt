@@ -19,27 +19,24 @@ none-requires c κs = search needs
 loop-holds : tie.Need-loop-holds Inv-loop μ-loop
 loop-holds c = (search needs, search needs, rw (c .none .ensures) (squares-first _ _ _))
 
-mul-multiply : tie.Need-mul-multiply Inv-loop μ-loop
-mul-multiply c = record { fits = omega (arith, place-bound (c .before .before .before .before .before .pre .0) (c .before .before .loop .i) (omega arith)) }
+mul-step-square : tie.Need-mul-step-square Inv-loop μ-loop
+mul-step-square c = record { fits = omega (arith, place-bound (c .before .before .before .before .before .pre .0) (c .before .before .loop .i) (omega arith)) }
 
-mul-multiply-2 : tie.Need-mul-multiply-2 Inv-loop μ-loop
-mul-multiply-2 c = record { fits = omega (arith, place-bound (c .before .before .before .before .before .pre .0) (c .before .before .loop .i) (omega arith)) }
+add-step-square : tie.Need-add-step-square Inv-loop μ-loop
+add-step-square c = search needs
 
-add-multiply : tie.Need-add-multiply Inv-loop μ-loop
-add-multiply c = search needs
+mul-step-square-2 : tie.Need-mul-step-square-2 Inv-loop μ-loop
+mul-step-square-2 c = record { fits = omega (arith, place-bound (c .before .before .before .before .before .pre .0) (c .before .before .loop .i + 1) (omega arith)) }
 
-mul-multiply-3 : tie.Need-mul-multiply-3 Inv-loop μ-loop
-mul-multiply-3 c = record { fits = omega (arith, place-bound (c .before .before .before .before .before .pre .0) (c .before .before .loop .i + 1) (omega arith)) }
-
-multiply-requires : tie.Need-multiply-requires Inv-loop μ-loop
-multiply-requires c κs =
+step-square-requires : tie.Need-step-square-requires Inv-loop μ-loop
+step-square-requires c κs =
     let at = c .before .before in
     squares-operands (at .before .before .before .pre .0) (at .loop .inv .2 .within .size) (at .loop .inv .0) (c .before .loop-test .taken)
 
 plus-requires : tie.Need-plus-requires Inv-loop μ-loop
 plus-requires c κs =
     let at = c .before .before .before .before .before in
-    omega (arith, place-bound (at .before .before .before .pre .0) (at .loop .i - 1) (omega arith), c .before .before .multiply .ensures .places)
+    omega (arith, place-bound (at .before .before .before .pre .0) (at .loop .i - 1) (omega arith), c .before .before .step-square .ensures .places)
 
 add-i : tie.Need-add-i Inv-loop μ-loop
 add-i c = search needs
@@ -55,7 +52,7 @@ loop-again c =
       search needs,
       rw (c .plus .ensures)
           (squares-next (at .before .before .before .pre .0) (at .loop .inv .0) (turn .before .before .loop-test .taken) (at .loop .inv .2)
-          (turn .multiply .ensures)),
+          (turn .step-square .ensures)),
     )
 
 same-length : tie.Need-same-length Inv-loop μ-loop
@@ -74,11 +71,10 @@ squares-spec =
     μ-loop
     none-requires
     loop-holds
-    mul-multiply
-    mul-multiply-2
-    add-multiply
-    mul-multiply-3
-    multiply-requires
+    mul-step-square
+    add-step-square
+    mul-step-square-2
+    step-square-requires
     plus-requires
     add-i
     loop-less

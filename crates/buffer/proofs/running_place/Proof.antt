@@ -1,9 +1,9 @@
--- `horner::running_place` meets its contract. Assumes nothing.
+-- `buffer::running_place` meets its contract. Assumes nothing.
 use native.Mathlib.Omega.{arith}
 use mathlib.Core.Path.{refl}
-use Rattle.horner.specs.Steps.{running-inside, runningPlace}
-use Rattle.horner.proofs.running_place.Statement.{statement}
-use Rattle.horner.proofs.running_place.Tie as tie
+use Rattle.buffer.specs.Turns.{running-inside, runningPlace}
+use Rattle.buffer.proofs.running_place.Statement.{statement}
+use Rattle.buffer.proofs.running_place.Tie as tie
 
 mul-result : tie.Need-mul-result
 unfolding runningPlace

@@ -1,18 +1,19 @@
--- `buffer::move_down` meets its contract: after i turns the first i places are written, and none that is still to be read.
+-- `buffer::copy_part` meets its contract: after i turns the first i places are written, and none that is still to be read.
 -- Assumes nothing.
 use borrow.Author.Needs.{needs}
 use native.Mathlib.Omega.{arith}
 use Prim.Native.Nat.{ℕ, _+_, _-_, _<_, _≤_}
+use mathlib.Core.Logic.{_⊎_, _≢_, inl, inr, ⊎-elim}
 use mathlib.Core.Path.{_≡_}
 use mathlib.Core.List.{List}
 use lib.ListN.{length, getD, take, drop, set, length-drop}
 use lib.Seq.{sets, length-take-le, getD-drop}
-use Rattle.buffer.specs.Written.{sets-take, getD-sets-after}
-use Rattle.buffer.proofs.move_down.Statement.{statement}
-use Rattle.buffer.proofs.move_down.Tie as tie
+use Rattle.buffer.specs.Written.{sets-take, getD-sets-other}
+use Rattle.buffer.proofs.copy_part.Statement.{statement}
+use Rattle.buffer.proofs.copy_part.Tie as tie
 
--- a turn: place from + i is still as it was, since the places written lie below it
-module _ (w : List ℕ) (from to i : ℕ) (down : to ≤ from) (inside : from + i < length w) where
+-- a turn: place from + i is still as it was, since the places written lie below it, or above all that are read
+module _ (w : List ℕ) (from to i : ℕ) (clear : (to ≤ from) ⊎ (from + i < to)) (inside : from + i < length w) where
   abbrev part : List ℕ
   part = take i (drop from w)
 
@@ -20,7 +21,11 @@ module _ (w : List ℕ) (from to i : ℕ) (down : to ≤ from) (inside : from + 
   moved =
       let room : i < length (drop from w) = rw length-drop (omega arith) in
       let size : length part ≡ i = length-take-le i (drop from w) (omega arith) in
-      rw (getD-sets-after w to part (from + i) 0 (omega arith), ← getD-drop) (sets-take w to (drop from w) i 0 room)
+      rw (getD-sets-other w to part (from + i) 0 (λ j below. apart clear (omega arith)), ← getD-drop) (sets-take w to (drop from w) i 0 room)
+    where
+      apart : {j : ℕ} → (to ≤ from) ⊎ (from + i < to) → j < i → from + i ≢ to + j
+      apart (inl down) below e = omega arith
+      apart (inr up) below e = omega arith
 
 abbrev Inv-loop : tie.InvT-loop
 Inv-loop w₀ from to count i₀ w i = (i ≤ count) × (length w ≡ length w₀) × (w ≡ sets w₀ to (take i (drop from w₀)))
@@ -57,8 +62,10 @@ loop-less c = search needs
 
 loop-again : tie.Need-loop-again Inv-loop μ-loop
 loop-again c =
-    let inside : c .before .before .before .args .from + c .before .before .loop .i < length (c .before .before .before .args .w .now) = omega arith in
-    (search needs, search needs, rw (c .before .before .loop .inv .2) (moved _ _ _ (c .before .before .loop .i) (c .before .before .before .pre .0) inside))
+    let turn = c .before .before in
+    let begin = turn .before in
+    let inside : begin .args .from + turn .loop .i < length (begin .args .w .now) = omega arith in
+    (search needs, search needs, rw (turn .loop .inv .2) (moved _ _ _ (turn .loop .i) (⊎-elim inl (λ up. inr (omega arith)) (begin .pre .order)) inside))
 
 same-length : tie.Need-same-length Inv-loop μ-loop
 same-length c = search needs
@@ -68,8 +75,8 @@ returns c =
     let all : c .before .loop .i ≡ c .before .before .args .count = omega arith in
     rw (← all) (c .before .loop .inv .2)
 
-pub move-down-spec : {M : Type 1} → statement M
-move-down-spec =
+pub copy-part-spec : {M : Type 1} → statement M
+copy-part-spec =
     tie.close
     (tie.spec
     Inv-loop

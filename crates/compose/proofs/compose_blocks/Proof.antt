@@ -1,12 +1,12 @@
--- `compose::compose` meets its contract. Assumes nothing.
+-- `compose::compose_blocks` meets its contract. Assumes nothing.
 use borrow.Author.Needs.{needs}
 use native.Mathlib.Omega.{arith}
 use lib.ListN.{length}
 use mathlib.Core.Path.{sym, _∙_}
 use Rattle.compose.specs.Answered.{bounds-lent, compose-accepted, compose-refused}
 use Rattle.refusal.specs.Bounds.{ComposeBounds, compose-bounds}
-use Rattle.compose.proofs.compose.Statement.{statement}
-use Rattle.compose.proofs.compose.Tie as tie
+use Rattle.compose.proofs.compose_blocks.Statement.{statement}
+use Rattle.compose.proofs.compose_blocks.Tie as tie
 
 compose-requires : tie.Need-compose-requires
 compose-requires c κs = search needs
@@ -22,12 +22,12 @@ module _ (c : tie.Else1) where
   abbrev begin : tie.Start
   begin = c .before .before .before .before .before .before
 
-  bounds : ComposeBounds (begin .args .route) (begin .args .p) (begin .args .n) (begin .args .f .now) (begin .args .g .now)
+  bounds : ComposeBounds (begin .args .route) (begin .args .b) (begin .args .p) (begin .args .n) (begin .args .f .now) (begin .args .g .now)
       (length (begin .args .out .now)) (length (begin .args .work .now))
-  bounds = compose-bounds _ _ _ _ _ _ _ (sym (c .before .compose .ensures) ∙ c .if1 .left)
+  bounds = compose-bounds _ _ _ _ _ _ _ _ (sym (c .before .compose .ensures) ∙ c .if1 .left)
 
 run-requires : tie.Need-run-requires
-run-requires c κs = (bounds-lent (bounds (c .before)), bounds (c .before) .field .prime)
+run-requires c κs = (bounds-lent (bounds (c .before)), bounds (c .before) .field .prime, bounds (c .before) .blocks)
 
 value-requires : tie.Need-value-requires
 value-requires c κs = search needs
@@ -41,7 +41,7 @@ finish-requires : tie.Need-finish-requires
 finish-requires c κs =
     let run = c .before .before .before .before .before .before in
     let b = bounds (run .before .before) in
-    let size = run .run .kept .1 .1 .1 .1 .1 .0 in
+    let size = run .run .kept .1 .1 .1 .1 .1 .1 .0 in
     (omega (arith, b .output, bounds-lent b .enough, size), omega (arith, c .before .before .work-places .ensures, b .enough, size))
 
 same-length : tie.Need-same-length
@@ -61,8 +61,8 @@ returns-2 c =
     (bounds tested .output) (run .run .ensures) (weighed .value .ensures) (finish .before .before .before .work-places .ensures)
     (finish .finish .ensures)
 
-pub compose-spec : {M : Type 1} → statement M
-compose-spec =
+pub compose-blocks-spec : {M : Type 1} → statement M
+compose-blocks-spec =
     tie.close
     (tie.spec
     compose-requires

@@ -1,4 +1,4 @@
--- `chain::Chain::cycle` meets its contract. Assumes nothing.
+-- `chain::Chain::cycle_blocks` meets its contract. Assumes nothing.
 use borrow.Author.Needs.{needs}
 use native.Mathlib.Omega.{arith}
 use lib.ListN.{length}
@@ -6,8 +6,8 @@ use mathlib.Core.Path.{sym, _∙_}
 use Rattle.chain.specs.Answered.{bounds-lent, cycle-accepted, cycle-refused}
 use Rattle.chain.specs.Record.{recorded}
 use Rattle.refusal.specs.Bounds.{CycleBounds, cycle-bounds}
-use Rattle.chain.proofs.Chain.cycle.Statement.{statement}
-use Rattle.chain.proofs.Chain.cycle.Tie as tie
+use Rattle.chain.proofs.Chain.cycle_blocks.Statement.{statement}
+use Rattle.chain.proofs.Chain.cycle_blocks.Tie as tie
 
 cycle-requires : tie.Need-cycle-requires
 cycle-requires c κs = search needs
@@ -25,12 +25,14 @@ module _ (c : tie.Else1) where
   abbrev begin : tie.Start
   begin = c .before .before .before .before .before .before
 
-  bounds : CycleBounds (begin .args .route) (recorded (begin .args .self)) (begin .args .list .now) (begin .args .running .now)
+  bounds : CycleBounds (begin .args .route) (begin .args .b) (recorded (begin .args .self)) (begin .args .list .now) (begin .args .running .now)
       (length (begin .args .work .now))
-  bounds = cycle-bounds _ _ _ _ _ (sym (c .before .cycle .ensures) ∙ c .if1 .left)
+  bounds = cycle-bounds _ _ _ _ _ _ (sym (c .before .cycle .ensures) ∙ c .if1 .left)
 
 run-requires : tie.Need-run-requires
-run-requires c κs = (bounds-lent (bounds (c .before .before)), bounds (c .before .before) .field .prime)
+run-requires c κs =
+    let told = bounds (c .before .before) in
+    (bounds-lent told, told .field .prime, told .blocks)
 
 value-requires : tie.Need-value-requires
 value-requires c κs = search needs
@@ -44,7 +46,7 @@ finish-requires : tie.Need-finish-requires
 finish-requires c κs =
     let run = c .before .before .before .before .before .before in
     let b = bounds (run .before .before .before) in
-    let size = run .run .kept .1 .1 .1 .1 .1 .0 in (
+    let size = run .run .kept .1 .1 .1 .1 .1 .1 .0 in (
       omega (arith, b .running, bounds-lent b .enough, size),
       omega (arith, c .before .before .cycle-places .ensures, b .enough, size),
     )
@@ -72,8 +74,8 @@ returns-2 c =
     cycle-accepted (args .list .now) (args .running .now) (args .work .now) (tested c .before .cycle .ensures) (tested c .if1 .left)
     (bounds (tested c) .running) (run .run .ensures) (weighed .value .ensures) (places .cycle-places .ensures) (finish .finish .ensures)
 
-pub cycle-spec : {M : Type 1} → statement M
-cycle-spec =
+pub cycle-blocks-spec : {M : Type 1} → statement M
+cycle-blocks-spec =
     tie.close
     (tie.spec
     cycle-requires
