@@ -1,7 +1,8 @@
 /*
  * The stack that each call takes. A call is made in a thread of its own, on a stack whose every byte holds a pattern before; after it the
  * lowest byte that holds something else says how deep the call went below the frame of its caller. The row 'none' is that frame without a
- * call. The outer and the inner list have n coefficients. The argument is the largest order.
+ * call. The outer and the inner list have n coefficients, and blocks of route 2 have one, with which its joins go deepest. The argument is
+ * the largest order.
  *
  * Link with -z now: otherwise the first call of memset looks it up, which takes stack too.
  */
@@ -52,11 +53,13 @@ static uint32_t made(const struct job *job)
     ruhitapo_chain chain = {job->p, n, 0};
     switch (job->call) {
     case COMPOSE:
-        return ruhitapo_compose(job->route, job->p, n, job->f, n, job->g, n, job->out, n, job->work, job->work_count).number;
+        return ruhitapo_compose_blocks(job->route, RUHITAPO_SHORTEST_BLOCK, job->p, n, job->f, n, job->g, n, job->out, n,
+                                       job->work, job->work_count).number;
     case REVERSE:
         return ruhitapo_reverse(job->p, n, job->g, n, job->out, n, job->work, job->work_count).number;
     case CYCLE:
-        return ruhitapo_cycle(chain, job->route, job->g, n, job->out, n, job->work, job->work_count).number;
+        return ruhitapo_cycle_blocks(chain, job->route, RUHITAPO_SHORTEST_BLOCK, job->g, n, job->out, n,
+                                     job->work, job->work_count).number;
     default:
         return RUHITAPO_ACCEPTED;
     }

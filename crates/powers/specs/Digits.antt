@@ -4,15 +4,15 @@
 --   power-products-1       g itself takes none
 --   power-products-half    for b above 1 they are those of g^(b/2), a squaring, and one more where b is odd
 --   power-products-digits  the power of the first digits of b takes no more than g^b
---   power-products-few     at most 36 where b is at most 64
+--   power-products-few     they are few where b is at most 64
 --   first-digit            after all digits but the first, 1 is left
---   next-digit             one digit more is twice what the digits before it give, and that digit
+--   next-digit             the digits before the next one make half of what they make with it
 -- Assumes nothing.
 use Prim.Native.Nat.{ℕ, zero, suc, _+_, _-_, _*_, _/_, _%_, _^_, _<_, _≤_}
 use native.Mathlib.Nat.{div-lt-iff-lt-mul, div-one, le-div-iff-mul-le, le-refl, le-trans, one-mul, pow-suc, pow-zero}
 use native.Mathlib.Numerals.{add-one}
 use native.Mathlib.Omega.{arith}
-use mathlib.Core.Path.{_≡_, refl, sym, _∙_}
+use mathlib.Core.Path.{_≡_, refl, sym}
 use lib.Count.{leading-length, leading-top, leading-unique, leadingZeros, ones, ones-cat, ones-le, ones-step, onesIn}
 use lib.Pow.{pow-pos, shr-le, shr-shr}
 use Rattle.definition.specs.Weight.{powerProducts}

@@ -1,7 +1,7 @@
 -- `powers::base_power` meets its contract: before each turn all digits but the last `left` are taken. Assumes nothing.
 use borrow.Author.Needs.{needs}
 use native.Mathlib.Omega.{arith}
-use Prim.Native.Nat.{ℕ, suc, _+_, _-_, _/_, _%_, _^_}
+use Prim.Native.Nat.{ℕ, suc, _+_, _-_}
 use mathlib.Core.List.{List}
 use lib.Count.{ones, ones-le}
 use mathlib.Core.Path.{_≡_, refl}
@@ -18,7 +18,6 @@ use Rattle.powers.specs.Binary.{
   running-next,
   running-small,
 }
-use Rattle.powers.specs.Digits.{power-products-few}
 use Rattle.powers.proofs.base_power.Statement.{statement}
 use Rattle.powers.proofs.base_power.Tie as tie
 
