@@ -108,7 +108,7 @@ pub fn coefficient_number(earlier: u32, p: u32, l: &[u32]) -> u32
 }
 
 // The same of the test 2, which is made only where no earlier test fired.
-pub fn modulus_number(earlier: u32, p: u32) -> u32
+fn modulus_number(earlier: u32, p: u32) -> u32
     ensures { λ r. ⌜ r ≡ numberAfter earlier (test 2 (badModulus p) ∷ []) ⌝ }
 {
     if earlier != 0 {
