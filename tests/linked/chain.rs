@@ -59,7 +59,7 @@ pub fn largest_order(tally: &mut Tally, random: &mut Random) {
         let (chain, mut running) = opened(tally, random, p, n);
         running[2..5].copy_from_slice(&random.list(p, 3));
         let mut input = cycle_input(random, chain, &running);
-        input.route = route;
+        (input.route, input.block) = (route, random.block_of(route));
         input.inner.truncate(5);
         input.lend(random, Call::Cycle);
         same(tally, Call::Cycle, &input, 0);
