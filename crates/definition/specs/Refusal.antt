@@ -1,5 +1,6 @@
 -- The number that a call returns: 0 where it is accepted, else the number of the first test that fires. Each call is the list of its tests,
--- in the order in which they are made: 1 to 11 ascending, as in 01, and a number of a request straight after the one that it names. Lists come as lists of numbers; of an output or a work buffer only the count of places is read.
+-- in the order in which they are made: 1 to 11 ascending, as in 01, and a number of a request straight after the one that it names. Lists come as
+-- lists of numbers; of an output or a work buffer only the count of places is read.
 --
 --   first tests          the number of the first test that fires, or 0
 --   composeRefusal, reverseRefusal, openRefusal, cycleRefusal, tableRefusal, renderRefusal   the number of each call

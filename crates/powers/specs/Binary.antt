@@ -176,6 +176,10 @@ module _ {p n b : ℕ} {w : List ℕ} (pre : PowerOperands p n 1 w) (bounds : (0
     more : powerProducts (b / 2 ^ left) ≡ powerProducts (b / 2 ^ suc left) + 1 + b / 2 ^ left % 2
     more = rw half (power-products-half (b / 2 ^ left) (omega (arith, r .some, half)) (omega (arith, bounds .1, shr-le b left)))
 
+    -- and the places of them
+    more-places : powerProducts (b / 2 ^ left) * n ≡ powerProducts (b / 2 ^ suc left) * n + (1 + b / 2 ^ left % 2) * n
+    more-places = ap (λ k. k * n) (omega (arith, more)) ∙ add-mul (powerProducts (b / 2 ^ suc left)) (1 + b / 2 ^ left % 2) n
+
     enough : powerProducts (b / 2 ^ left) ≤ powerProducts b
     enough = power-products-digits b left (omega (arith, bounds .1)) (omega (arith, r .some, half))
 
@@ -187,8 +191,7 @@ module _ {p n b : ℕ} {w : List ℕ} (pre : PowerOperands p n 1 w) (bounds : (0
         omega (
           arith,
           r .sum,
-          ap (λ k. k * n) more,
-          add-mul (powerProducts (b / 2 ^ suc left)) (1 + b / 2 ^ left % 2) n,
+          more-places,
           mul-le-mul {n₁ = powerProducts (b / 2 ^ left)} {n₂ = 37} {m₂ = limit} (omega (arith, enough, power-products-few b (bounds .1))) (pre .order),
         )
 
@@ -202,7 +205,7 @@ module _ {p n b : ℕ} {w : List ℕ} (pre : PowerOperands p n 1 w) (bounds : (0
           rw (← exponent, ← inner) (taken .value (b / 2 ^ suc left) (rw inner (r .value)));
       some = omega (arith, r .some, half);
       products = omega (arith, r .products, more, running-due);
-      sum = omega (arith, r .sum, rw last at (taken .sum), ap (λ k. k * n) more, add-mul (powerProducts (b / 2 ^ suc left)) (1 + b / 2 ^ left % 2) n);
+      sum = omega (arith, r .sum, rw last at (taken .sum), more-places);
     }
 
 -- the copy: w is the buffer before it, v after

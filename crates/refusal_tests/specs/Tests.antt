@@ -8,6 +8,7 @@
 --   after-earlier after-fired after-passed   one further test: an earlier one fired, or it fires, or it does not
 --   told                     one further test, by what the function answers that makes it
 --   followed                 a list, and then further tests
+--   routed-told              the tests that calls with a route begin with, by what the functions answer that make them
 --   either                   two tests of one number that follow each other are one
 --   passed                   the first k tests did not fire, where none of them has the number of the list
 --   first-passed             the number of a list of which no test fires
@@ -86,6 +87,11 @@ first-append (t ∷ ts) us none =
 
 pub followed : (ts us : List Test) {earlier r : ℕ} → earlier ≡ first ts → r ≡ numberAfter earlier us → absent 0 ts ≡ true → r ≡ first (ts ++ us)
 followed ts us e h none = h ∙ rw e (first-append ts us none)
+
+-- the tests of route, block length, modulus and order, by what the functions answer that make three of them
+pub routed-told : (route b p n : ℕ) {k : ℕ} {unknown unfit outside : Bool} → unknown ≡ badRoute route → unfit ≡ badBlock route b → outside ≡ badOrder n
+    → k ≡ first (test 1 unknown ∷ test 15 unfit ∷ test 2 (badModulus p) ∷ test 3 outside ∷ []) → k ≡ first (routedTests route b p n)
+routed-told route b p n e f g h = rw (← e, ← f, ← g) h
 
 pub either : (own : ℕ) (a b : Bool) (earlier : ℕ) {k r : ℕ} → k ≡ numberAfter earlier (test own a ∷ []) → r ≡ numberAfter k (test own b ∷ []) → own ≢ 0
     → r ≡ numberAfter earlier (test own (a || b) ∷ [])

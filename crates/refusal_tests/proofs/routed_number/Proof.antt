@@ -2,7 +2,7 @@
 use borrow.Author.Needs.{needs}
 use mathlib.Core.Path.{refl}
 use Rattle.definition.specs.Refusal.{test}
-use Rattle.refusal_tests.specs.Tests.{absent, followed, numberAfter, told}
+use Rattle.refusal_tests.specs.Tests.{absent, followed, numberAfter, routed-told}
 use Rattle.refusal_tests.proofs.routed_number.Statement.{statement}
 use Rattle.refusal_tests.proofs.routed_number.Tie as tie
 
@@ -36,10 +36,10 @@ returns c =
     let route = one .before in
     let order = route .before in
     let block = order .before in
-    let to-one = told 1 0 (route .bad-route .ensures) (one .next-number .ensures) in
-    let to-fifteen = followed _ _ to-one (told 15 (one .next-number .result) (block .bad-block .ensures) (fifteen .next-number2 .ensures)) refl in
+    let to-fifteen = followed _ _ (one .next-number .ensures) (fifteen .next-number2 .ensures) refl in
     let to-two = followed _ _ to-fifteen (two .modulus-number .ensures) refl in
-    followed _ _ to-two (told 3 (two .modulus-number .result) (order .bad-order .ensures) (c .next-number3 .ensures)) refl
+    routed-told _ _ _ _ (route .bad-route .ensures) (block .bad-block .ensures) (order .bad-order .ensures)
+    (followed _ _ to-two (c .next-number3 .ensures) refl)
 
 pub routed-number-spec : {M : Type 1} → statement M
 routed-number-spec =
