@@ -15,6 +15,8 @@
 --   scalars l              natural numbers as constant series
 --   value l f s            the polynomial f, a list of natural numbers, at a series s
 --   small-listed reduced-listed   tables of numbers below p, and of remainders
+--   reduced-value          the series of a substitution is the value of f at the series of g
+--   reduced-identity       the series of x is x
 --   product-series constant-series identity-series power-series substituted-series
 --                          the sequences of the definitions are those of the algebra, over the natural numbers
 --   series-single          the series of a list of one place is a constant
@@ -112,10 +114,10 @@ power-series g zero = constant-series 1 ∙ sym (𝟙-constant naturals) ∙ sym
 power-series g (suc i) =
     product-series (power g i) g ∙ rw (power-series g i, ⊗-comm (series naturals), ← power-suc (series naturals))
 
-pub substituted-series : (f g : List ℕ) → substituted f g ≡ evaluate (constants naturals) f (coefficient g)
+pub substituted-series : (f : List ℕ) (g : ℕ → ℕ) → substituted f g ≡ evaluate (constants naturals) f g
 unfolding substituted substitutedTerm coefficient
 substituted-series f g = fun-ext λ k.
-    rw (evaluate-sum (constants naturals) f (coefficient g) (length f) (omega arith), sum-at naturals)
+    rw (evaluate-sum (constants naturals) f g (length f) (omega arith), sum-at naturals)
     (sum-naturals (length f) (substitutedTerm f g k)
     ∙ Sum.sum-cong naturals (length f) _ _ (λ i b. rw (constant-⊠-at naturals, power-series)))
 
@@ -187,10 +189,10 @@ module _ {p : ℕ} (l : 0 < p) where
   reduced-⊞ : (a b : ℕ → ℕ) → reduced (λ k. a k + b k) ≡ reduced a ⊞ reduced b
   reduced-⊞ a b = fun-ext λ k. simp (coefficients-at (reduction l), ⊞-at (residues l), residue-+ l)
 
-  reduced-value : (f g : List ℕ) → reduced (substituted f g) ≡ value f (series-of g)
+  pub reduced-value : (f : List ℕ) (g : ℕ → ℕ) → reduced (substituted f g) ≡ value f (reduced g)
   reduced-value f g =
       rw (substituted-series f g)
-      (map-evaluate (coefficientwise (reduction l)) (constants naturals) scalars (coefficients-constant (reduction l)) f (coefficient g))
+      (map-evaluate (coefficientwise (reduction l)) (constants naturals) scalars (coefficients-constant (reduction l)) f g)
 
   reduced-power : (g : List ℕ) (e : ℕ) → reduced (power (coefficient g) e) ≡ Power.power residue-series (series-of g) e
   reduced-power g e = rw (power-series (coefficient g) e) (map-power (coefficientwise (reduction l)) (coefficient g) e)
@@ -205,7 +207,8 @@ module _ {p : ℕ} (l : 0 < p) where
 
   pub composed-listed : (n : ℕ) (f g : List ℕ) → composed p n f g ≡ listed n (value f (series-of g))
   unfolding composed composedAt
-  composed-listed n f g = reduced-listed n (substituted f g) ∙ ap (listed n) (reduced-value f g)
+  composed-listed n f g =
+      reduced-listed n (substituted f (coefficient g)) ∙ ap (listed n) (reduced-value f (coefficient g))
 
   pub cutProduct-listed : (n : ℕ) (a b : List ℕ) → cutProduct p n a b ≡ listed n (series-of a ⊠ series-of b)
   unfolding cutProduct cutProductAt
@@ -243,11 +246,13 @@ module _ {p : ℕ} (l : 0 < p) where
       small-listed n (Bernstein.spread q (coefficient s)) (λ k b. spread-below q (coefficient s) h k)
       ∙ ap (listed n) (rw (spread-naturals q (coefficient s)) (coefficients-spread (reduction l) q (coefficient s)))
 
+  pub reduced-identity : reduced identityAt ≡ indeterminate (residues l)
+  reduced-identity = rw identity-series (coefficients-indeterminate (reduction l))
+
   pub identity-listed : (n : ℕ) → 1 < p → identity n ≡ listed n (indeterminate (residues l))
   unfolding identity identityAt Plain.constant
   identity-listed n h =
-      small-listed n identityAt (λ k b. small k)
-      ∙ ap (listed n) (rw identity-series (coefficients-indeterminate (reduction l)))
+      small-listed n identityAt (λ k b. small k) ∙ ap (listed n) reduced-identity
     where
       small : (k : ℕ) → identityAt k < p
       small zero = l

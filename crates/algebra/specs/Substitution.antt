@@ -21,6 +21,7 @@
 --   substitute-assoc-agree    the same below n, where a(u) and u(w) are known below n
 --
 -- For lists of coefficients, taken along a homomorphism:
+--   substitute-evaluate       substitution into the value of a list at s is its value at s(u)
 --   substitute-coefficients   substitution into the series of a list is the value of the list at u
 --   evaluate-assoc            (f(g))(u) is f(g(u)) below n, where f(g) is known below n, as a list
 use Prim.Native.Nat.{ℕ, zero, suc, _+_}
@@ -234,8 +235,8 @@ module _ {A B : Type 0} {R : Semiring A} {S : Semiring B} (φ : Homomorphism S R
   scalars = composite (constants R) φ
 
   module _ (u : Series A) (h : u 0 ≡ R .𝟘) where
-    substitute-evaluate : (f : List B) (s : Series A)
-        → substitute R (evaluate scalars f s) u ≡ evaluate scalars f (substitute R s u)
+    pub substitute-evaluate : (f : List B) (s : Series A)
+        → substitute R (evaluate (composite (constants R) φ) f s) u ≡ evaluate (composite (constants R) φ) f (substitute R s u)
     substitute-evaluate =
         map-evaluate (substitution R u h) scalars scalars (λ b. substitute-constant R u h (φ .map b))
 

@@ -78,7 +78,7 @@ module _ {p : ℕ} (P : Prime p) where
   unfolding composed composedAt
   composed-below n f g k =
       elim (decLt k n) [
-        | yes b ↦ rw (coefficient-tabulate n (composedAt p f g) k b) (mod-lt (substituted f g k) positive)
+        | yes b ↦ rw (coefficient-tabulate n (composedAt p f g) k b) (mod-lt (substituted f (coefficient g) k) positive)
         | no b ↦ rw (tabulate-beyond n (composedAt p f g) k (omega arith)) positive
       ]
 

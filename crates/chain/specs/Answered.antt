@@ -63,8 +63,9 @@ module _ {p n : ℕ} (s : List ℕ) {number : ℕ} (tested : number ≡ openRefu
   }
 
 pub bounds-lent : {route b work : ℕ} {chain : Chain} {c s : List ℕ} → CycleBounds route b chain c s work
-    → Lent (chain .modulus) (chain .order) (length c) work
-bounds-lent bounds = field-lent (bounds .field) (bounds .outer) (omega (arith, bounds .enough))
+    → Lent (chain .modulus) (chain .order) (length s) work
+bounds-lent bounds =
+    field-lent (bounds .field) (omega (arith, bounds .running, bounds .field .order)) (omega (arith, bounds .running, bounds .enough))
 
 next-refused : (number : ℕ) (chain : Chain) → number ≢ 0 → nextChain number chain ≡ chain
 unfolding nextChain
@@ -82,7 +83,7 @@ module _ {route b : ℕ} {chain : Chain} (c s work : List ℕ) {number : ℕ} (t
   }
 
   pub cycle-accepted : {s′ then work′ : List ℕ} {places result weighed : ℕ} → number ≡ 0 → length s ≡ chain .order
-      → Route (chain .modulus) (chain .order) c s (weight route b (chain .modulus) (chain .order) (length c)) work then result → weighed ≡ result
+      → Route (chain .modulus) (chain .order) s c (weight route b (chain .modulus) (chain .order) (length s)) work then result → weighed ≡ result
       → places ≡ cycleWork (chain .order) (length c) → Finished places then work′ s s′
       → Cycle route b chain c s s′ work work′ 0 weighed (record { modulus = chain .modulus; order = chain .order; done = chain .done + 1 })
   unfolding nextChain
@@ -90,7 +91,7 @@ module _ {route b : ℕ} {chain : Chain} (c s work : List ℕ) {number : ℕ} (t
       let finished = route-finished run (omega (arith, counts)) size finish in
       record {
         refusal = sym accepted ∙ tested;
-        weighs = read ∙ run .sum ∙ sym (answered-accepted _ refl);
+        weighs = read ∙ run .sum ∙ ap (weight route b (chain .modulus) (chain .order)) size ∙ sym (answered-accepted _ refl);
         records = refl;
         running = finished .0 ∙ sym (kept-accepted _ s refl);
         clears = finished .1 ∙ ap (λ k. cleared k work) counts ∙ sym (kept-accepted _ work refl);

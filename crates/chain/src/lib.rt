@@ -72,7 +72,8 @@ impl Chain {
         }
     }
 
-    // A cycle: the running series S becomes C(S) modulo x^n by the route named, C being the list. Route 2 takes blocks of b places.
+    // A cycle: the running series S becomes S(C) modulo x^n by the route named, C being the list, so that the earliest cycle is outermost.
+    // Route 2 takes blocks of b places.
     pub fn cycle_blocks(
         mut self,
         route: u32,
@@ -94,7 +95,7 @@ impl Chain {
                 chain: self,
             };
         }
-        let products: Weight = compose::run(route, b, p, n, list, running, work);
+        let products: Weight = compose::run(route, b, p, n, running, list, work);
         let weight = products.value();
         let places = refusal::cycle_places(n, list.len());
         route::finish(work, running, places);

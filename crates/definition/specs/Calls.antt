@@ -55,11 +55,12 @@ pub record Open (p n : ℕ) (s s′ : List ℕ) (number weight′ : ℕ) (chain�
   pub records : chain′ ≡ openedChain number p n
   pub running : s′ ≡ kept number (identity n) s
 
+-- the running series s becomes s(c), so that the earliest cycle is outermost (N3): the outer list is s, of as many places as the order
 pub record Cycle (route b : ℕ) (chain : Chain) (c s s′ work work′ : List ℕ) (number weight′ : ℕ) (chain′ : Chain) : Type 0 where
   pub refusal : number ≡ cycleRefusal route b chain c s (length work)
-  pub weighs : weight′ ≡ answered number (weight route b (chain .modulus) (chain .order) (length c))
+  pub weighs : weight′ ≡ answered number (weight route b (chain .modulus) (chain .order) (chain .order))
   pub records : chain′ ≡ nextChain number chain
-  pub running : s′ ≡ kept number (composed (chain .modulus) (chain .order) c s) s
+  pub running : s′ ≡ kept number (composed (chain .modulus) (chain .order) s c) s
   pub clears : work′ ≡ kept number (cleared (cycleWork (chain .order) (length c)) work) work
 
 pub record Table (index number prime : ℕ) : Type 0 where

@@ -1,16 +1,20 @@
--- The running series of a chain (01's term), which opening sets to x modulo x^n. A cycle (01's term) with list c makes the series s into
--- c(s) modulo x^n.
+-- The running series of a chain (01's term), from the cycles (01's term) that the chain accepted, as whole polynomials: nothing is cut or
+-- reduced before the end. A copy made in the first cycle goes through the later ones, so the earliest cycle is outermost (N3).
 --
---   after p n s cs     the running series after the cycles cs, first cycle first, from the series s
---   running p n cs     the same from an opened chain, whose running series is x modulo x^n
-use Prim.Native.Nat.{ℕ}
+--   composition cs k   coefficient k of the composition of the cycles cs, first cycle first and outermost; of no cycle it is x
+--   running p n cs     the running series after these cycles: their composition modulo p and x^n, a list of n places
+use Prim.Native.Nat.{ℕ, _%_}
 use mathlib.Core.List.{List, [], _∷_}
-use Rattle.definition.specs.Substitution.{composed}
-use Rattle.definition.specs.Reversion.{identity}
+use Rattle.definition.specs.Lists.{tabulate}
+use Rattle.definition.specs.Reversion.{identityAt}
+use Rattle.definition.specs.Substitution.{substituted}
 
-unfoldable pub after : ℕ → ℕ → List ℕ → List (List ℕ) → List ℕ
-after p n s [] = s
-after p n s (c ∷ cs) = after p n (composed p n c s) cs
+unfoldable pub composition : List (List ℕ) → ℕ → ℕ
+composition [] = identityAt
+composition (c ∷ cs) = substituted c (composition cs)
+
+unfoldable pub runningAt : ℕ → List (List ℕ) → ℕ → ℕ
+runningAt p cs k = composition cs k % p
 
 unfoldable pub running : ℕ → ℕ → List (List ℕ) → List ℕ
-running p n cs = after p n (identity n) cs
+running p n cs = tabulate n (runningAt p cs)

@@ -3,7 +3,7 @@
 --
 --   product a b k       coefficient k of a × b: the sum of a(i) b(k - i) over i from 0 to k
 --   power g i k         coefficient k of g^i
---   substituted f g k   coefficient k of f(g): the sum of f's coefficient i times coefficient k of g^i
+--   substituted f g k   coefficient k of f(g), g a sequence: the sum of f's coefficient i times coefficient k of g^i
 --   composed p n f g    f(g) modulo x^n and p, a list of n places
 --   cutProduct p n a b  the product of two lists modulo p, cut to n places
 --   cutSum p n a b      the sum of two lists modulo p, cut to n places
@@ -27,14 +27,14 @@ unfoldable pub power : (ℕ → ℕ) → ℕ → ℕ → ℕ
 power g zero = constant 1
 power g (suc i) = product (power g i) g
 
-unfoldable pub substitutedTerm : List ℕ → List ℕ → ℕ → ℕ → ℕ
-substitutedTerm f g k i = coefficient f i * power (coefficient g) i k
+unfoldable pub substitutedTerm : List ℕ → (ℕ → ℕ) → ℕ → ℕ → ℕ
+substitutedTerm f g k i = coefficient f i * power g i k
 
-unfoldable pub substituted : List ℕ → List ℕ → ℕ → ℕ
+unfoldable pub substituted : List ℕ → (ℕ → ℕ) → ℕ → ℕ
 substituted f g k = sum (length f) (substitutedTerm f g k)
 
 unfoldable pub composedAt : ℕ → List ℕ → List ℕ → ℕ → ℕ
-composedAt p f g k = substituted f g k % p
+composedAt p f g k = substituted f (coefficient g) k % p
 
 unfoldable pub composed : ℕ → ℕ → List ℕ → List ℕ → List ℕ
 composed p n f g = tabulate n (composedAt p f g)

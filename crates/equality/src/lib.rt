@@ -82,7 +82,7 @@ pub fn compose_and_cycle(
         (now (work2 .entry)) (now (work2 .exit)) (r .second .number) (r .second .weight) (recorded (r .second .chain)) ⌝ }
     ensures { λ r. ⌜ Equality (r .first .number) p1 n1 (now (f1 .entry)) (now (g1 .entry)) (now (out1 .exit))
         (r .second .number) (chain2 .modulus) (chain2 .order)
-        (now (list2 .entry)) (now (running2 .entry)) (now (running2 .exit)) ⌝ }
+        (now (running2 .entry)) (now (list2 .entry)) (now (running2 .exit)) ⌝ }
 {
     let first = compose::compose_blocks(route1, b1, p1, n1, f1, g1, out1, work1);
     let second = chain2.cycle_blocks(route2, b2, list2, running2, work2);
@@ -112,9 +112,9 @@ pub fn cycle_and_cycle(
     ensures { λ r. ⌜ Cycle route2 b2 (recorded chain2) (now (list2 .entry)) (now (running2 .entry)) (now (running2 .exit))
         (now (work2 .entry)) (now (work2 .exit)) (r .second .number) (r .second .weight) (recorded (r .second .chain)) ⌝ }
     ensures { λ r. ⌜ Equality (r .first .number) (chain1 .modulus) (chain1 .order)
-        (now (list1 .entry)) (now (running1 .entry)) (now (running1 .exit))
+        (now (running1 .entry)) (now (list1 .entry)) (now (running1 .exit))
         (r .second .number) (chain2 .modulus) (chain2 .order)
-        (now (list2 .entry)) (now (running2 .entry)) (now (running2 .exit)) ⌝ }
+        (now (running2 .entry)) (now (list2 .entry)) (now (running2 .exit)) ⌝ }
 {
     let first = chain1.cycle_blocks(route1, b1, list1, running1, work1);
     let second = chain2.cycle_blocks(route2, b2, list2, running2, work2);

@@ -69,11 +69,11 @@ pub record CycleBounds (route b : ℕ) (chain : Chain) (c s : List ℕ) (work : 
   pub named : (0 < route) × (route ≤ 4)
   pub blocks : route ≡ 2 → (0 < b) × (b ≤ longestBlock)
   pub field : FieldBounds (chain .modulus) (chain .order)
-  pub outer : length c ≤ limit
+  pub inner : length c ≤ limit
   pub running : length s ≡ chain .order
   pub enough : cycleWork (chain .order) (length c) ≤ work
-  pub below-outer : exceeds (chain .modulus) c ≡ false
-  pub below-inner : exceeds (chain .modulus) s ≡ false
+  pub below-inner : exceeds (chain .modulus) c ≡ false
+  pub below-outer : exceeds (chain .modulus) s ≡ false
   pub constant-free : coefficient c 0 ≡ 0
   pub running-constant-free : coefficient s 0 ≡ 0
   pub not-full : chain .done < mostCycles
@@ -150,11 +150,11 @@ cycle-bounds route b chain c s work accepted =
       named = route-within route one;
       blocks = block-within route b fifteen;
       field = field-bounds two three;
-      outer = length-within c five;
+      inner = length-within c five;
       running = places-equal (chain .order) (length s) six;
       enough = ltb-false work _ seven;
-      below-outer = below .0;
-      below-inner = below .1;
+      below-inner = below .0;
+      below-outer = below .1;
       constant-free = constant-zero c (constants .0);
       running-constant-free = constant-zero s (constants .1);
       not-full = leb-false mostCycles (chain .done) eleven;

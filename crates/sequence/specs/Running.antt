@@ -1,135 +1,124 @@
 -- Laws of the running series of a chain. p is the modulus, n the order, cs and ds are lists of cycles. Assumes nothing.
 --
---   ConstantFree cs       no cycle of cs has a constant term
---   RunningSeries p n s   s has n places, all below p, and no constant term
---   after-++              first cs, then ds
---   identity-places       x has n places
---   composed-identity     x composed with a running series is that series
---   identity-series composed-series after-series running-series
---                         x, c(s) for a running series s, and what cycles without constant term leave, are running series
---   after-composed        cycles from t(s) leave what they leave from t, composed with s: associativity
---   running-append        the running series of cs and then ds is that of ds alone composed with that of cs
-use Prim.Native.Nat.{ℕ, zero, suc, _<_}
-use mathlib.Core.List.{List, List·Memᴰ, List·Memᴰ·head, List·Memᴰ·tail, [], _∷_, _++_}
+--   ConstantFree cs        no cycle of cs has a constant term
+--   length-running         the running series has n places
+--   whole l cs             the composition of the cycles cs, nothing cut, as a series over the residues
+--   running-listed         the running series is read off it
+--   whole-++               the composition of cs and then ds is that of cs at that of ds
+--   running-[]             after no cycle the running series is x
+--   running-composed       the running series of cs, composed with a list that begins as the composition of ds does, is that of cs and then ds
+--   running-next           so it is with one cycle more: cutting at every cycle loses nothing
+--   running-append         and with the running series of ds, that of a chain of its own
+use Prim.Native.Nat.{ℕ, _<_}
+use mathlib.Core.List.{List, List·Memᴰ, List·Memᴰ·head, List·Memᴰ·eq-of-singleton, List·Memᴰ·tail, [], _∷_, _++_}
 use mathlib.Core.Path.{_≡_, refl, sym, ap, _∙_}
 use lib.ListN.{length}
-use native.Mathlib.Nat.{mod-lt, mul-zero, zero-add, zero-mod, zero-mul}
-use native.Mathlib.Omega.{arith}
 use Rattle.algebra.specs.Agree.{Agree, agree-equal, agree-refl, agree-trans}
-use Rattle.algebra.specs.Bridge.{series-of, composed-listed, identity-listed, listed-agree, listed-series, series-listed}
-use Rattle.algebra.specs.Composition.{composed-assoc, length-composed, series-constant}
-use Rattle.algebra.specs.Lists.{coefficient-tabulate, length-tabulate, sum-zero}
-use Rattle.algebra.specs.Residue.{residues, reduction}
-use Rattle.algebra.specs.Series.{indeterminate}
-use Rattle.algebra.specs.Substitution.{substitute-agree, substitute-coefficients, substitute-indeterminate}
-use Rattle.definition.specs.Lists.{coefficient, sum, tabulate}
-use Rattle.definition.specs.Reversion.{identity, identityAt}
-use Rattle.definition.specs.Running.{after, running}
-use Rattle.definition.specs.Substitution.{
-  composed,
-  composedAt,
-  constant,
-  power,
-  product,
-  productTerm,
-  substituted,
-  substitutedTerm,
+use Rattle.algebra.specs.Bridge.{
+  composed-listed,
+  identity-listed,
+  listed,
+  listed-agree,
+  reduced,
+  reduced-identity,
+  reduced-listed,
+  reduced-value,
+  scalars,
+  series-listed,
+  series-of,
+  value,
 }
+use Rattle.algebra.specs.Composition.{series-constant}
+use Rattle.algebra.specs.Evaluate.{evaluate-agree}
+use Rattle.algebra.specs.Lists.{length-tabulate}
+use Rattle.algebra.specs.Residue.{Residue, reduction, residues}
+use Rattle.algebra.specs.Series.{Series, indeterminate, indeterminate-0}
+use Rattle.algebra.specs.Substitution.{
+  substitute,
+  substitute-0,
+  substitute-agree,
+  substitute-coefficients,
+  substitute-evaluate,
+  substitute-indeterminate,
+  substitute-into-indeterminate,
+}
+use Rattle.definition.specs.Lists.{coefficient}
+use Rattle.definition.specs.Reversion.{identity}
+use Rattle.definition.specs.Running.{composition, running, runningAt}
+use Rattle.definition.specs.Substitution.{composed}
 
 abbrev pub ConstantFree : List (List ℕ) → Type 0
 ConstantFree cs = (c : List ℕ) → List·Memᴰ c cs → coefficient c 0 ≡ 0
 
-pub record RunningSeries (p n : ℕ) (s : List ℕ) : Type 0 where
-  pub places : length s ≡ n
-  pub below : (k : ℕ) → k < n → coefficient s k < p
-  pub no-constant : coefficient s 0 ≡ 0
+pub length-running : (p n : ℕ) (cs : List (List ℕ)) → length (running p n cs) ≡ n
+unfolding running
+length-running p n cs = length-tabulate n (runningAt p cs)
 
-pub after-++ : (p n : ℕ) (s : List ℕ) (cs ds : List (List ℕ)) → after p n s (cs ++ ds) ≡ after p n (after p n s cs) ds
-unfolding after
-after-++ p n s [] ds = refl
-after-++ p n s (c ∷ cs) ds = after-++ p n (composed p n c s) cs ds
+module _ {p : ℕ} (l : 0 < p) where
+  pub whole : List (List ℕ) → Series (Residue p)
+  whole cs = reduced l (composition cs)
 
-pub identity-places : (n : ℕ) → length (identity n) ≡ n
-unfolding identity
-identity-places n = length-tabulate n identityAt
+  whole-[] : whole [] ≡ indeterminate (residues l)
+  unfolding whole composition
+  whole-[] = reduced-identity l
 
--- a table whose rule is 0 at 0
-tabulate-constant : (n : ℕ) (f : ℕ → ℕ) → f 0 ≡ 0 → coefficient (tabulate n f) 0 ≡ 0
-unfolding coefficient tabulate
-tabulate-constant zero f e = refl
-tabulate-constant (suc n) f e = coefficient-tabulate (suc n) f 0 (omega arith) ∙ e
+  whole-∷ : (c : List ℕ) (cs : List (List ℕ)) → whole (c ∷ cs) ≡ value l c (whole cs)
+  unfolding whole composition
+  whole-∷ c cs = reduced-value l c (composition cs)
 
-substituted-constant : (c s : List ℕ) → coefficient c 0 ≡ 0 → coefficient s 0 ≡ 0 → substituted c s 0 ≡ 0
-unfolding substituted substitutedTerm power product productTerm sum
-substituted-constant c s e z = sum-zero (length c) (substitutedTerm c s 0) (λ k b. term k)
-  where
-    term : (i : ℕ) → substitutedTerm c s 0 i ≡ 0
-    term zero = rw e (zero-mul _)
-    term (suc i) = rw (z, mul-zero, zero-add) (mul-zero _)
+  pub running-listed : (n : ℕ) (cs : List (List ℕ)) → running p n cs ≡ listed n (whole cs)
+  unfolding running runningAt whole
+  running-listed n cs = reduced-listed l n (composition cs)
 
-module _ {p : ℕ} (l : 1 < p) (n : ℕ) where
-  positive : 0 < p
-  positive = omega arith
-
-  pub identity-series : RunningSeries p n (identity n)
-  unfolding identity identityAt constant
-  identity-series = record {
-    places = identity-places n;
-    below = λ k b. rw (coefficient-tabulate n identityAt k b) (small k);
-    no-constant = tabulate-constant n identityAt refl;
-  }
-    where
-      small : (k : ℕ) → identityAt k < p
-      small zero = positive
-      small (suc zero) = l
-      small (suc (suc k)) = positive
-
-  pub composed-series : (c s : List ℕ) → coefficient c 0 ≡ 0 → coefficient s 0 ≡ 0 → RunningSeries p n (composed p n c s)
-  unfolding composed composedAt
-  composed-series c s e z = record {
-    places = length-composed p n c s;
-    below = λ k b. rw (coefficient-tabulate n (composedAt p c s) k b) (mod-lt (substituted c s k) positive);
-    no-constant = tabulate-constant n (composedAt p c s) (rw (substituted-constant c s e z) (zero-mod p));
-  }
-
-  pub after-series : (s : List ℕ) (cs : List (List ℕ)) → RunningSeries p n s → ConstantFree cs → RunningSeries p n (after p n s cs)
-  unfolding after
-  after-series s [] r h = r
-  after-series s (c ∷ cs) r h =
-      after-series (composed p n c s) cs (composed-series c s (h c (List·Memᴰ·head refl)) (r .no-constant))
-      (λ d m. h d (List·Memᴰ·tail m))
-
-  pub running-series : (cs : List (List ℕ)) → ConstantFree cs → RunningSeries p n (running p n cs)
-  unfolding running
-  running-series cs h = after-series (identity n) cs identity-series h
-
-  pub composed-identity : (s : List ℕ) → RunningSeries p n s → composed p n (identity n) s ≡ s
+  whole-constant : (cs : List (List ℕ)) → ConstantFree cs → whole cs 0 ≡ residues l .𝟘
   unfolding coefficient
-  composed-identity s r =
-      let u = series-of positive s in
-      let z = series-constant positive s (r .no-constant) in
-      composed-listed positive n (identity n) s
+  whole-constant [] h = rw whole-[] (indeterminate-0 (residues l))
+  whole-constant (c ∷ cs) h =
+      let z = whole-constant cs (λ d m. h d (List·Memᴰ·tail m)) in
+      rw (whole-∷ c cs, ← substitute-coefficients (reduction l) (whole cs) z c, substitute-0 (residues l) (whole cs) z)
+      (series-constant l c (h c (List·Memᴰ·head refl)))
+
+  -- the composition of a single cycle is the cycle
+  whole-single : (c : List ℕ) → whole (c ∷ []) ≡ series-of l c
+  unfolding coefficient
+  whole-single c =
+      rw (
+        whole-∷ c [],
+        whole-[],
+        ← substitute-coefficients (reduction l) (indeterminate (residues l)) (indeterminate-0 (residues l)) c,
+        substitute-into-indeterminate (residues l),
+      )
+
+  pub whole-++ : (cs ds : List (List ℕ)) → ConstantFree ds → whole (cs ++ ds) ≡ substitute (residues l) (whole cs) (whole ds)
+  whole-++ [] ds h = rw whole-[] (sym (substitute-indeterminate (residues l) (whole ds) (whole-constant ds h)))
+  whole-++ (c ∷ cs) ds h =
+      rw (
+        whole-∷ c (cs ++ ds),
+        whole-++ cs ds h,
+        whole-∷ c cs,
+        substitute-evaluate (reduction l) (whole ds) (whole-constant ds h) c (whole cs),
+      )
+
+  pub running-[] : (n : ℕ) → 1 < p → running p n [] ≡ identity n
+  running-[] n h = rw (running-listed n [], whole-[]) (sym (identity-listed l n h))
+
+  pub running-composed : {n : ℕ} (cs ds : List (List ℕ)) (t : List ℕ) → ConstantFree ds → Agree n (series-of l t) (whole ds)
+      → composed p n (running p n cs) t ≡ running p n (cs ++ ds)
+  unfolding coefficient
+  running-composed {n} cs ds t h e =
+      composed-listed l n (running p n cs) t
       ∙ listed-agree
-      (rw (← substitute-coefficients (reduction positive) u z (identity n))
-      (agree-trans (substitute-agree (residues positive) x (agree-refl u))
-      (agree-equal (substitute-indeterminate (residues positive) u z))))
-      ∙ listed-series positive n s (r .places) (r .below)
-    where
-      x : Agree n (series-of positive (identity n)) (indeterminate (residues positive))
-      x = rw (identity-listed positive n l) (series-listed positive n (indeterminate (residues positive)))
+      (agree-trans (evaluate-agree (residues l) (scalars l) (running p n cs) e)
+      (rw (← substitute-coefficients (reduction l) (whole ds) (whole-constant ds h) (running p n cs), whole-++ cs ds h)
+      (substitute-agree (residues l) (rw (running-listed n cs) (series-listed l n (whole cs))) (agree-refl (whole ds)))))
+      ∙ sym (running-listed n (cs ++ ds))
 
-  pub after-composed : (t s : List ℕ) (ds : List (List ℕ)) → coefficient s 0 ≡ 0
-      → after p n (composed p n t s) ds ≡ composed p n (after p n t ds) s
-  unfolding after
-  after-composed t s [] z = refl
-  after-composed t s (d ∷ ds) z =
-      ap (λ r. after p n r ds) (sym (composed-assoc positive n d t s z)) ∙ after-composed (composed p n d t) s ds z
+  pub running-next : (n : ℕ) (cs : List (List ℕ)) (c : List ℕ) → coefficient c 0 ≡ 0
+      → composed p n (running p n cs) c ≡ running p n (cs ++ (c ∷ []))
+  running-next n cs c z =
+      running-composed cs (c ∷ []) c (λ d m. rw (List·Memᴰ·eq-of-singleton m) z) (agree-equal (sym (whole-single c)))
 
-  pub running-append : (cs ds : List (List ℕ)) → ConstantFree cs
-      → running p n (cs ++ ds) ≡ composed p n (running p n ds) (running p n cs)
-  unfolding running
-  running-append cs ds h =
-      let r = running-series cs h in
-      after-++ p n (identity n) cs ds
-      ∙ ap (λ s. after p n s ds) (sym (composed-identity (running p n cs) r))
-      ∙ after-composed (identity n) (running p n cs) ds (r .no-constant)
+  pub running-append : (n : ℕ) (cs ds : List (List ℕ)) → ConstantFree ds
+      → composed p n (running p n cs) (running p n ds) ≡ running p n (cs ++ ds)
+  running-append n cs ds h =
+      running-composed cs ds (running p n ds) h (rw (running-listed n ds) (series-listed l n (whole ds)))

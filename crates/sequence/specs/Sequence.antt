@@ -6,7 +6,7 @@
 --   ChainOf p n chain s cs           this record and this running series are those of the cycles cs
 --   sequence-running                 so it is after every sequence
 --   sequence-constant-free           no cycle that was accepted has a constant term
-use Prim.Native.Nat.{ℕ, zero, suc, _≤_}
+use Prim.Native.Nat.{ℕ, zero, suc, _<_, _≤_}
 use mathlib.Core.List.{
   List,
   List·Memᴰ,
@@ -21,17 +21,16 @@ use mathlib.Core.Logic.{_⊎_, inl, inr}
 use mathlib.Core.Path.{_≡_, refl, sym, ap, _∙_}
 use lib.ListN.{length, length-append}
 use native.Mathlib.Omega.{arith}
-use Rattle.algebra.specs.Composition.{length-composed}
-use Rattle.sequence.specs.Running.{ConstantFree, after-++, identity-places}
+use Rattle.algebra.specs.Prime.{prime-positive}
+use Rattle.sequence.specs.Running.{ConstantFree, length-running, running-[], running-next}
 use Rattle.definition.specs.Answer.{kept}
 use Rattle.definition.specs.Calls.{Cycle, Open}
 use Rattle.definition.specs.Chain.{Chain, nextChain, openedChain}
 use Rattle.definition.specs.Lists.{coefficient}
 use Rattle.definition.specs.Refusal.{mostCycles}
-use Rattle.definition.specs.Reversion.{identity}
-use Rattle.definition.specs.Running.{after, running}
+use Rattle.definition.specs.Running.{running}
 use Rattle.definition.specs.Substitution.{composed}
-use Rattle.refusal.specs.Bounds.{cycle-bounds}
+use Rattle.refusal.specs.Bounds.{cycle-bounds, open-bounds}
 
 unfoldable pub acceptedAfter : ℕ → List ℕ → List (List ℕ) → List (List ℕ)
 acceptedAfter zero c cs = cs ++ (c ∷ [])
@@ -53,26 +52,31 @@ pub record ChainOf (p n : ℕ) (chain : Chain) (s : List ℕ) (cs : List (List �
   pub most : chain .done ≤ mostCycles
 
 opened-chain : {p n weight : ℕ} {s s′ : List ℕ} {chain : Chain} → Open p n s s′ 0 weight chain → ChainOf p n chain s′ []
-unfolding openedChain kept running after
-opened-chain {n = n} o =
-    rw (o .records, o .running)
-    (record { modulus = refl; order = refl; counts = refl; series = refl; places = identity-places n; most = omega arith })
+unfolding openedChain kept
+opened-chain {p} {n} {s = s} o =
+    let prime = open-bounds p n (length s) (sym (o .refusal)) .field .prime in
+    let series = o .running ∙ sym (running-[] (prime-positive prime) n (prime .above-one)) in
+    rw (o .records)
+    (record { modulus = refl; order = refl; counts = refl; series = series; places = ap length series ∙ length-running p n []; most = omega arith })
 
 -- an accepted cycle is one more; a refused one leaves all as it was
 called-chain : {p n : ℕ} {chain : Chain} {s : List ℕ} {cs : List (List ℕ)} → ChainOf p n chain s cs
     → {route b : ℕ} (number : ℕ) {weight : ℕ} {chain′ : Chain} {c s′ work work′ : List ℕ}
     → Cycle route b chain c s s′ work work′ number weight chain′ → ChainOf p n chain′ s′ (acceptedAfter number c cs)
-unfolding nextChain kept acceptedAfter running after
+unfolding nextChain kept acceptedAfter
 called-chain {p} {n} {chain} {s} {cs} r {route} {b} zero {c = c} {work = work} q =
-    let series : _≡_ {A = List ℕ} _ (composed p n c (running p n cs)) = rw (r .modulus, r .order, r .series) at (q .running) in
+    let bounds = cycle-bounds route b chain c s (length work) (sym (q .refusal)) in
+    let positive : 0 < p = rw (r .modulus) at (prime-positive (bounds .field .prime)) in
+    let composed-next : _≡_ {A = List ℕ} _ (composed p n (running p n cs) c) = rw (r .modulus, r .order, r .series) at (q .running) in
+    let series = composed-next ∙ running-next positive n cs c (bounds .constant-free) in
     rw (q .records)
     (record {
       modulus = r .modulus;
       order = r .order;
       counts = omega (arith, r .counts, length-append cs (c ∷ []));
-      series = series ∙ sym (after-++ p n (identity n) cs (c ∷ []));
-      places = ap length series ∙ length-composed p n c _;
-      most = omega (arith, cycle-bounds route b chain c s (length work) (sym (q .refusal)) .not-full);
+      series = series;
+      places = ap length series ∙ length-running p n (cs ++ (c ∷ []));
+      most = omega (arith, bounds .not-full);
     })
 called-chain r (suc number) q = rw (q .records, q .running) r
 

@@ -1,8 +1,9 @@
--- The twelve settled examples of 01 and the case of request N1, as rows of one table with one theorem.
+-- The twelve settled examples of 01 and the cases of requests N1 and N3, as rows of one table with one theorem.
 --
 --   Example     a row of the table: a job and its result
+--   Leaves ..   cycles from a chain record and a running series on are accepted, one after the other, and leave a list
 --   Holds e     what the row says of the definitions
---   examples    the table, in the order of 01, and then N1's case
+--   examples    the table, in the order of 01, then N1's case, then N3's by each route
 --   settled     every row of the table holds
 --
 -- Assumes nothing.
@@ -31,9 +32,11 @@ use Rattle.definition.specs.Weight.{
   weight,
 }
 use Rattle.definition.specs.Prime.{indivisible, isPrime, largestModulus}
-use Rattle.definition.specs.Refusal.{test, first, composeWork, badRoute, badBlock, badModulus, badOrder, tooLong, notPlaces, exceeds, irreversible, composeRefusal, reverseRefusal}
+use Rattle.definition.specs.Chain.{Chain, nextChain, openedChain}
+use Rattle.definition.specs.Refusal.{test, first, composeWork, cycleWork, badRoute, badBlock, badModulus, badOrder, tooLong, notPlaces, exceeds, irreversible, hasConstant, composeRefusal, reverseRefusal, cycleRefusal}
 use Rattle.definition.specs.Taylor.{binomial, shiftedTerm, shifted, leastPower, valuation, leadingAt, leading}
 use Rattle.definition.specs.Reversion.{identityAt, identity, Reversion}
+use Rattle.definition.specs.Running.{composition, runningAt, running}
 
 pub data Example : Type 0 where
   -- route, p, n, f, g; the output and the weight
@@ -50,6 +53,14 @@ pub data Example : Type 0 where
   not-reversing : ℕ → ℕ → List ℕ → ℕ → Example
   -- p, n, g, two outer lists; the output of both
   equal : ℕ → ℕ → List ℕ → List ℕ → List ℕ → List ℕ → Example
+  -- route, p, n, the cycles of a chain in their order; the running series, and the weight of each cycle
+  cycling : ℕ → ℕ → ℕ → List (List ℕ) → List ℕ → ℕ → Example
+
+abbrev pub Leaves : ℕ → Chain → List ℕ → List (List ℕ) → List ℕ → Type 0
+Leaves route chain s [] out = s ≡ out
+Leaves route chain s (c ∷ cs) out =
+    (cycleRefusal route blockLength chain c s (cycleWork (chain .order) (length c)) ≡ 0)
+    × Leaves route (nextChain 0 chain) (composed (chain .modulus) (chain .order) s c) cs out
 
 abbrev pub Holds : Example → Type 0
 Holds (composing route p n f g out w) =
@@ -62,6 +73,10 @@ Holds (weighing-lengths n m ws) = (p : ℕ) → tabulate (length ws) (λ i. weig
 Holds (reversing p n g h) = (reverseRefusal p n g n (composeWork n (length g)) ≡ 0) × Reversion p n g h
 Holds (not-reversing p n g number) = reverseRefusal p n g n (composeWork n (length g)) ≡ number
 Holds (equal p n g f₁ f₂ out) = (composed p n f₁ g ≡ out) × (composed p n f₂ g ≡ out) × (leading p n f₁ g ≡ leading p n f₂ g)
+Holds (cycling route p n cs out w) =
+    (running p n cs ≡ out)
+    × Leaves route (openedChain 0 p n) (identity n) cs out
+    × (weight route blockLength p n n ≡ w)
 
 -- every row of a table holds
 abbrev pub Every : List Example → Type 0
@@ -75,6 +90,10 @@ _and_ a b = (a, b)
 -- the four parts of a reversion, each found by computing
 reversion : {p n : ℕ} {g h : List ℕ} → length h ≡ n → exceeds p h ≡ false → coefficient h 0 ≡ 0 → composed p n g h ≡ identity n → Reversion p n g h
 reversion l b c r = record { places = l; below = b; no-constant = c; reverses = r }
+
+-- N3's cycles
+abbrev pub touchdown : List (List ℕ)
+touchdown = (0 ∷ 1 ∷ 1 ∷ []) ∷ (0 ∷ 1 ∷ 2 ∷ []) ∷ []
 
 abbrev pub examples : List Example
 examples =
@@ -91,10 +110,14 @@ examples =
     ∷ reversing 7 1 (0 ∷ 0 ∷ 1 ∷ []) (0 ∷ [])
     ∷ equal 7 3 (0 ∷ 0 ∷ 1 ∷ []) (1 ∷ 1 ∷ []) (1 ∷ 1 ∷ 5 ∷ []) (1 ∷ 0 ∷ 1 ∷ [])
     ∷ weighing-lengths 4 9 (44 ∷ 44 ∷ 44 ∷ 44 ∷ 44 ∷ 44 ∷ 48 ∷ 44 ∷ replicate 56 32)
+    ∷ cycling 1 7 5 touchdown (0 ∷ 1 ∷ 3 ∷ 4 ∷ 4 ∷ []) 20
+    ∷ cycling 2 7 5 touchdown (0 ∷ 1 ∷ 3 ∷ 4 ∷ 4 ∷ []) 30
+    ∷ cycling 3 7 5 touchdown (0 ∷ 1 ∷ 3 ∷ 4 ∷ 4 ∷ []) 20
+    ∷ cycling 4 7 5 touchdown (0 ∷ 1 ∷ 3 ∷ 4 ∷ 4 ∷ []) 59
     ∷ []
 
 pub settled : Every examples
-unfolding sum tabulate coefficient ceilDiv productTerm product constant power substitutedTerm substituted composedAt composed partCount hornerWeight powerProducts joinProducts rangedProducts rangedWeight bernsteinLevels bernsteinWeight degreeBound halvingsFrom halvings kinoshitaLiLevels kinoshitaLiWeight weight lib.Count.ones lib.Count.onesIn lib.Count.leadingZeros indivisible isPrime largestModulus test first badRoute badBlock badModulus badOrder tooLong notPlaces exceeds irreversible composeRefusal reverseRefusal binomial shiftedTerm shifted leastPower valuation leadingAt leading identityAt identity
+unfolding sum tabulate coefficient ceilDiv productTerm product constant power substitutedTerm substituted composedAt composed partCount hornerWeight powerProducts joinProducts rangedProducts rangedWeight bernsteinLevels bernsteinWeight degreeBound halvingsFrom halvings kinoshitaLiLevels kinoshitaLiWeight weight lib.Count.ones lib.Count.onesIn lib.Count.leadingZeros indivisible isPrime largestModulus test first badRoute badBlock badModulus badOrder tooLong notPlaces exceeds irreversible hasConstant composeRefusal reverseRefusal cycleRefusal openedChain nextChain binomial shiftedTerm shifted leastPower valuation leadingAt leading identityAt identity composition runningAt running
 settled =
     (refl, refl, refl)
     and (refl, refl, refl)
@@ -109,4 +132,8 @@ settled =
     and (refl, reversion refl refl refl refl)
     and (refl, refl, refl)
     and (λ p. refl)
+    and (refl, (refl, (refl, refl)), refl)
+    and (refl, (refl, (refl, refl)), refl)
+    and (refl, (refl, (refl, refl)), refl)
+    and (refl, (refl, (refl, refl)), refl)
     and tt

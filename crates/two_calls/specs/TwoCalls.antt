@@ -1,6 +1,6 @@
 -- When two answers are equal (demand 3): one claim about any two calls, each of compose or of a cycle. Both routes and block lengths, what the output and
--- the work held before, and what else a call was given are left open. A cycle's outer and inner lists are its own list and the running
--- series, its output is the running buffer. A name with a prime (′) is a value after the call. Assumes nothing.
+-- the work held before, and what else a call was given are left open. A cycle's outer list is the running series, its inner list is its own
+-- (N3), and its output is the running buffer. A name with a prime (′) is a value after the call. Assumes nothing.
 --
 --   Call number p n f g out′   a call that returned this number, with outer list f, inner list g, and out′ in its output afterwards
 --   Answers p n f₁ g₁ out₁ f₂ g₂ out₂   each output is f(g) modulo x^n for its own lists; the two are equal exactly when the first ⌈n/v⌉
@@ -28,7 +28,7 @@ pub data Call : ℕ → ℕ → ℕ → List ℕ → List ℕ → List ℕ → T
   compose : {route b p n number weight : ℕ} {f g out out′ work work′ : List ℕ}
       → Compose route b p n f g out out′ work work′ number weight → Call number p n f g out′
   cycle : {route b number weight : ℕ} {chain chain′ : Chain} {c s s′ work work′ : List ℕ}
-      → Cycle route b chain c s s′ work work′ number weight chain′ → Call number (chain .modulus) (chain .order) c s s′
+      → Cycle route b chain c s s′ work work′ number weight chain′ → Call number (chain .modulus) (chain .order) s c s′
 
 pub record Answers (p n : ℕ) (f₁ g₁ out₁ f₂ g₂ out₂ : List ℕ) : Type 0 where
   pub first : out₁ ≡ composed p n f₁ g₁

@@ -40,7 +40,7 @@ value-requires c κs = search needs
 cycle-places-requires : tie.Need-cycle-places-requires
 cycle-places-requires c κs =
     let b = bounds (c .before .before .before .before .before .before) in
-    (b .field .order, omega (arith, b .outer))
+    (b .field .order, b .inner)
 
 finish-requires : tie.Need-finish-requires
 finish-requires c κs =
