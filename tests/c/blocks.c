@@ -62,27 +62,31 @@ static void make_reasons(void)
         }
 }
 
-/* Every length that route 2 takes, with lists that fill no block, blocks wholly, or blocks but for one place. */
+/* Every length that route 2 takes, with outer lists that fill no block, blocks wholly, or blocks but for one place: that of a cycle, its running
+   series, has as many places as the order. */
 static void make_lengths(void)
 {
     size_t block, i;
     for (block = 1; block <= 64; block++) {
         const size_t counts[] = {0, 1, block - 1, block, block + 1, 2 * block - 1, 2 * block, 2 * block + 1, 5 * block + 1, 200};
         for (i = 0; i < 2 * COUNT(counts); i++) {
-            const struct edge edge = {i % 2 == 0 ? COMPOSE : CYCLE, 2, 4294967291u, 5, counts[i / 2], 5, 0, 0, ANY};
-            blocks_at(&edge, block, i % 4 == 1);
+            const struct edge compose = {COMPOSE, 2, 4294967291u, 5, counts[i / 2], 5, 0, 0, ANY};
+            const struct edge cycle = {CYCLE, 2, 4294967291u, counts[i / 2], 5, 5, 0, 0, ANY};
+            blocks_at(i % 2 == 0 ? &compose : &cycle, block, i % 4 == 1);
         }
     }
 }
 
-/* What nine places weigh at order 4, at every length that route 2 takes: settled cases, not computed here. */
+/* The products of nine outer places, at every length that route 2 takes: a settled case at order 4, not computed here. A cycle has them at
+   order 9. */
 static void compare_nine_places(void)
 {
-    static const struct edge edges[] = {{COMPOSE, 2, 7, 4, 9, 3, 0, 0, ANY}, {CYCLE, 2, 7, 4, 9, 0, 0, 0, ANY}};
+    static const struct edge edges[] = {{COMPOSE, 2, 7, 4, 9, 3, 0, 0, ANY}, {CYCLE, 2, 7, 9, 3, 0, 0, 0, ANY}};
     size_t block, i;
     for (block = 1; block <= 64; block++)
         for (i = 0; i < COUNT(edges); i++)
-            call_compare("weight of nine places", block == 7 ? 48 : block <= 8 ? 44 : 32, blocks_at(edges + i, block, 0).beside);
+            call_compare("weight of nine places", edges[i].n * (block == 7 ? 12 : block <= 8 ? 11 : 8),
+                         blocks_at(edges + i, block, 0).beside);
 }
 
 void blocks_make(void)

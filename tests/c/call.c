@@ -106,7 +106,8 @@ static size_t block_length(const struct call *c)
 
 static uint64_t expected_weight(const struct call *c, uint32_t number)
 {
-    return number == 0 ? plain_weight(c->route, block_length(c), c->p, c->n, c->f_count) : 0;
+    size_t outer_count = c->kind == CYCLE ? c->n : c->f_count;
+    return number == 0 ? plain_weight(c->route, block_length(c), c->p, c->n, outer_count) : 0;
 }
 
 /* The library's answer to a composition. */
@@ -206,7 +207,7 @@ static struct returned make_cycle(const struct call *c)
     call_compare("weight", expected_weight(c, number), answer.weight);
     chain = compare_chain((struct chain){c->p, c->n, c->done + (number == 0)}, answer.chain);
     if (number == 0)
-        plain_compose(c->p, c->n, list, c->f_count, c->g, c->n, fence_expected(&out_fence));
+        plain_compose(c->p, c->n, c->g, c->n, list, c->f_count, fence_expected(&out_fence));
     compare_buffer("running", &out_fence, sizeof *running);
     compare_work(c, number);
     return (struct returned){answer.number, answer.weight, chain};

@@ -22,8 +22,8 @@ typedef ruhitapo_cycle_answer cycle_blocks_function(ruhitapo_chain chain, uint32
                                                     const uint32_t *list, size_t list_count, uint32_t *running,
                                                     size_t running_count, uint32_t *work, size_t work_count);
 
-/* Rendering has its list in g. A cycle has its list in f, the running series, which is as long as the output, in g; p and n are those of its
-   chain. */
+/* Rendering has its list in g. A cycle has its list, which is the inner one, in f, and the running series, which is the outer one and as long
+   as the output, in g; p and n are those of its chain. */
 struct call {
     enum kind kind;
     uint32_t route, p, done, index, number;

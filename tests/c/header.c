@@ -115,7 +115,7 @@ static void compare_blocks(void)
         {"RUHITAPO_LONGEST_BLOCK", 0, RUHITAPO_LONGEST_BLOCK},
         {"RUHITAPO_LONGEST_BLOCK", 15, RUHITAPO_LONGEST_BLOCK + 1},
     };
-    static const struct edge edges[] = {{COMPOSE, 2, 7, 8, 13, 8, 0, 0, ANY}, {CYCLE, 2, 7, 8, 13, 0, 0, 0, ANY}};
+    static const struct edge edges[] = {{COMPOSE, 2, 7, 8, 13, 8, 0, 0, ANY}, {CYCLE, 2, 7, 13, 8, 0, 0, 0, ANY}};
     size_t i, j;
     for (i = 0; i < COUNT(edges); i++) {
         uint64_t weight = at(edges + i).beside;
