@@ -1,11 +1,13 @@
 //! Chains of larger orders, side by side with the second implementation: opened, cycled until they
 //! are full, with broken calls among them.
 
-use crate::checks::broken::{first, some};
+use crate::checks::broken::{first, some, without_constant};
+use crate::checks::calls::accepted;
 use crate::checks::chain::cycle_input;
 use crate::checks::library::{Call, Input};
 use crate::checks::support::{modulus, seen, Tally};
 use crate::compare::same;
+use crate::linked::Linked;
 use crate::plain::chain::Chain;
 use crate::plain::primes::LARGE_PRIMES;
 use crate::plain::random::Random;
@@ -52,16 +54,18 @@ fn opened(tally: &mut Tally, random: &mut Random, p: u64, n: usize) -> (Chain, V
     (left.chain, left.out)
 }
 
-/// One cycle by each route at order 4096.
+/// One cycle by each route at order 4096, with a short list and a running series of 4096 places, held
+/// against the definitions.
 pub fn largest_order(tally: &mut Tally, random: &mut Random) {
     for route in 1..=4 {
         let (p, n) = (modulus(random), 4096);
-        let (chain, mut running) = opened(tally, random, p, n);
-        running[2..5].copy_from_slice(&random.list(p, 3));
+        let (chain, _) = opened(tally, random, p, n);
+        let running = without_constant(random, p, n);
         let mut input = cycle_input(random, chain, &running);
         (input.route, input.block) = (route, random.block_of(route));
-        input.inner.truncate(5);
+        input.inner = without_constant(random, p, 4);
         input.lend(random, Call::Cycle);
-        same(tally, Call::Cycle, &input, 0);
+        let left = Call::Cycle.make::<Linked>(&input);
+        accepted(tally, Call::Cycle, &input, left);
     }
 }

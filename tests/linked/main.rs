@@ -29,7 +29,7 @@ use compare::Both;
 use program::Built;
 use std::process::ExitCode;
 
-const GROUPS: [(&str, Check); 69] = [
+const GROUPS: [(&str, Check); 70] = [
     ("settled examples", settled::examples::<Both>),
     ("edges", settled::edges::<Both>),
     ("every small shape", shapes::every_small),
@@ -75,6 +75,7 @@ const GROUPS: [(&str, Check); 69] = [
     ("reverse: published binomial case", published::binomial_case),
     ("chain: composition of all cycles", checks::chain::composition::<Both>),
     ("chain: changing block lengths", checks::chain::changing_lengths::<Both>),
+    ("chain: 64 different cycles", checks::chain::different_cycles::<Both>),
     ("chain: larger orders", chain::larger_orders),
     ("chain: order 4096", chain::largest_order),
     ("equality: random pairs", equality::random_pairs::<Both>),

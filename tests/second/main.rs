@@ -11,7 +11,7 @@ use checks::{blocks, calls, chain, equality, job, primes, render, reversion, rou
 use checks::{traps, wrong};
 use std::process::ExitCode;
 
-const GROUPS: [(&str, Check); 40] = [
+const GROUPS: [(&str, Check); 42] = [
     ("settled examples", settled::examples::<Plain>),
     ("whole case", settled::whole_case::<Plain>),
     ("edges", settled::edges::<Plain>),
@@ -41,6 +41,8 @@ const GROUPS: [(&str, Check); 40] = [
     ("block length: misread", wrong::block_lengths),
     ("chain: composition of all cycles", chain::composition::<Plain>),
     ("chain: changing block lengths", chain::changing_lengths::<Plain>),
+    ("chain: 64 different cycles", chain::different_cycles::<Plain>),
+    ("chain: misread", wrong::chains),
     ("primality", primes::primality),
     ("table", primes::table::<Plain>),
     ("rendering", render::render::<Plain>),

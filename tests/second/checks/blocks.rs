@@ -11,19 +11,23 @@ use crate::plain::substitution::substitution;
 /// The calls that take a block length.
 const CALLS: [Call; 2] = [Call::Compose, Call::Cycle];
 
-/// Outer coefficients where several blocks of any length are wanted.
+/// Outer coefficients where several blocks of any length are wanted; a cycle has as many as its order.
 const LONGEST: usize = 150;
+const LARGEST_ORDER: usize = 70;
 
 /// Calls of each kind that are made without a length and with 4.
 const DRAWS: usize = 1500;
 
-/// An input that the call accepts, whose outer list or cycle list has any count up to `LONGEST`.
+/// An input that the call accepts, whose outer list has any count up to the limit.
 fn draw(random: &mut Random, call: Call) -> Input {
     let mut input = Input::draw(random, call);
-    let count = random.count(1, LONGEST);
-    match call {
-        Call::Compose => input.outer = random.list(input.p, count),
-        _ => input.inner = without_constant(random, input.p, count),
+    if call == Call::Compose {
+        let count = random.count(1, LONGEST);
+        input.outer = random.list(input.p, count);
+    } else {
+        let n = random.count(1, LARGEST_ORDER);
+        input.n = n as u64;
+        input.out = without_constant(random, input.p, n);
     }
     input.lend(random, call);
     input

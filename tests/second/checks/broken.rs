@@ -53,7 +53,7 @@ impl Input {
             Call::Reverse => input.inner = reversible(random, p, count),
             Call::Open => (),
             Call::Cycle => {
-                input.inner = without_constant(random, p, count);
+                input.inner = without_constant(random, p, count - 1);
                 input.out = without_constant(random, p, n);
             }
         }
@@ -142,10 +142,11 @@ impl Input {
         put_constant(random, self.p, either);
     }
 
-    /// Makes the work buffer too short. With order 0 and an outer list without places none would be.
+    /// Makes the work buffer too short. With order 0 and an empty list none would be.
     fn shorten_work(&mut self, random: &mut Random, call: Call) {
         if call.needed(self) == 0 {
-            self.outer.push(0);
+            let counted = if call == Call::Compose { &mut self.outer } else { &mut self.inner };
+            counted.push(0);
         }
         let longest = call.needed(self) - 1;
         let places = random.pick(&[0, longest / 2, longest]).min(1 << 20);
@@ -156,12 +157,13 @@ impl Input {
 /// A list of this many places without constant term.
 pub fn without_constant(random: &mut Random, p: u64, count: usize) -> Vec<u32> {
     let mut list = random.list(p, count);
-    list[0] = 0;
+    list[..count.min(1)].fill(0);
     list
 }
 
 /// Makes the constant term something other than zero, if it is not yet; p may be no modulus.
-fn put_constant(random: &mut Random, p: u64, list: &mut [u32]) {
+fn put_constant(random: &mut Random, p: u64, list: &mut Vec<u32>) {
+    list.resize(list.len().max(1), 0);
     if list[0] == 0 {
         list[0] = random.non_zero(p.max(2));
     }

@@ -75,7 +75,7 @@ pub fn accepted(tally: &mut Tally, call: Call, input: &Input, left: Left) {
             (left.out.clone(), 0)
         }
         Call::Open => (identity(n), 0),
-        Call::Cycle => (substitution(*p, inner, out, n), input.weight(inner.len())),
+        Call::Cycle => (substitution(*p, out, inner, n), input.weight(n)),
     };
     tally.equal((call, input), left, call.accepted(input, value, weight));
 }

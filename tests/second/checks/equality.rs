@@ -113,9 +113,11 @@ fn pair(random: &mut Random) -> [Case; 2] {
     [Case { p, n, f, g }, Case { p, n, f: other, g: extended }]
 }
 
-/// Whether a case is made in a chain: once in two times where both lists have constant term zero.
+/// Whether a case is made in a chain: once in two times where both lists have constant term zero and
+/// the outer one, the running series of a cycle, has no more than n places.
 fn in_chain(random: &mut Random, case: &Case) -> bool {
-    constant_term(&case.f) == 0 && constant_term(&case.g) == 0 && random.once_in(2)
+    let constants = constant_term(&case.f) != 0 || constant_term(&case.g) != 0;
+    !constants && case.f.len() <= case.n && random.once_in(2)
 }
 
 /// The output of a compose, or of a cycle, which must be the substitution.
@@ -139,10 +141,10 @@ fn answer<L: Library>(
 
 fn cycle<L: Library>(random: &mut Random, (route, block): Way, case: &Case) -> (u32, Vec<u32>) {
     let n = case.n as u64;
-    let mut running = products::places(&case.g, case.n);
-    let mut work = random.buffer(refusals::cycle_work_places(n, case.f.len()) as usize);
+    let mut running = products::places(&case.f, case.n);
+    let mut work = random.buffer(refusals::cycle_work_places(n, case.g.len()) as usize);
     let chain = Chain { modulus: case.p, order: n, done: random.below(64) };
-    let (_, answer) = L::cycle(chain, route, block, &case.f, &mut running, &mut work);
+    let (_, answer) = L::cycle(chain, route, block, &case.g, &mut running, &mut work);
     (answer.number, running)
 }
 

@@ -1,5 +1,5 @@
-//! The values that the statement settles: the twelve examples, the weights at every block length, the
-//! whole case and the edges.
+//! The values that the statement settles: the twelve examples, the weights at every block length, two
+//! cycles that differ, the whole case and the edges.
 
 use super::broken::without_constant;
 use super::library::{Library, Program};
@@ -9,7 +9,7 @@ use crate::plain::calls::Answer;
 use crate::plain::chain::Chain;
 use crate::plain::primes::{is_prime, LARGEST_MODULUS, LARGEST_PRIME, LARGE_PRIMES};
 use crate::plain::random::Random;
-use crate::plain::{refusals, substitution::substitution};
+use crate::plain::{products, refusals, substitution::substitution};
 
 fn case(p: u64, f: &[u32], g: &[u32], n: usize) -> Case {
     Case { p, n, f: f.to_vec(), g: g.to_vec() }
@@ -20,6 +20,7 @@ pub fn examples<L: Library>(tally: &mut Tally, random: &mut Random) {
     weighed_examples::<L>(tally, random);
     weighed_lengths::<L>(tally, random);
     reversed_examples::<L>(tally, random);
+    cycled_examples::<L>(tally, random);
     for route in 1..=4 {
         for f in [&[1, 1][..], &[1, 1, 5]] {
             let example = case(7, f, &[0, 0, 1], 3);
@@ -76,6 +77,21 @@ fn reversed_examples<L: Library>(tally: &mut Tally, random: &mut Random) {
     tally.equal("reverse 0 0 1, n 2", answer.number, 9);
     let (answer, out) = reverse::<L>(random, 7, &[0, 0, 1], 1);
     tally.equal("reverse 0 0 1, n 1", (answer.number, out), (0, vec![0]));
+}
+
+/// Two cycles that differ, the earlier one outermost: what each leaves and weighs, by every route.
+fn cycled_examples<L: Library>(tally: &mut Tally, random: &mut Random) {
+    for (route, weight) in [(1, 20), (2, 30), (3, 20), (4, 59)] {
+        let mut running = random.buffer(5);
+        let (mut chain, _) = L::open(7, 5, &mut running);
+        for (cycle, value) in [([0, 1, 1], [0, 1, 1, 0, 0]), ([0, 1, 2], [0, 1, 3, 4, 4])] {
+            let mut work = random.buffer(refusals::cycle_work_places(5, 3) as usize);
+            let (next, answer) = L::cycle(chain, route, None, &cycle, &mut running, &mut work);
+            let wanted = (Answer { number: 0, weight }, value.to_vec());
+            tally.equal((route, cycle), (answer, running.clone()), wanted);
+            chain = next;
+        }
+    }
 }
 
 pub fn whole_case<P: Program>(tally: &mut Tally, _: &mut Random) {
@@ -140,7 +156,7 @@ fn every_call<L: Library>(tally: &mut Tally, random: &mut Random, p: u64, n: usi
     let (mut running, chain) = (identity(n), Chain { modulus: p, order: n as u64, done: 0 });
     let mut work = random.buffer(refusals::cycle_work_places(n as u64, series.len()) as usize);
     let (_, answer) = L::cycle(chain, random.route(), None, &series, &mut running, &mut work);
-    let value = substitution(p, &series, &identity(n), n);
+    let value = products::places(&series, n);
     tally.equal(("cycle", p, n), (answer.number, running == value), wanted);
 }
 
@@ -190,9 +206,10 @@ fn edges_of_blocks<L: Library>(tally: &mut Tally, random: &mut Random) {
         let wanted = (number, number == 0);
         let (answer, out) = compose_in_blocks::<L>(random, route, Some(block), &example);
         tally.equal((route, block, "compose"), (answer.number, out == value), wanted);
-        let (mut running, chain) = (example.g.clone(), Chain { modulus: 7, order: 4, done: 0 });
-        let mut work = random.buffer(refusals::cycle_work_places(4, 70) as usize);
-        let (_, answer) = L::cycle(chain, route, Some(block), &example.f, &mut running, &mut work);
+        let (mut running, chain) = (example.f.clone(), Chain { modulus: 7, order: 70, done: 0 });
+        let mut work = random.buffer(refusals::cycle_work_places(70, 4) as usize);
+        let (_, answer) = L::cycle(chain, route, Some(block), &example.g, &mut running, &mut work);
+        let value = substitution(7, &example.f, &example.g, 70);
         tally.equal((route, block, "cycle"), (answer.number, running == value), wanted);
     }
 }

@@ -2,7 +2,7 @@
 //! in the caller's buffer.
 
 use super::calls::Answer;
-use super::{products, refusals, routes};
+use super::{products, refusals, routes, substitution};
 
 #[derive(Clone, Copy, Debug, Default, PartialEq, Eq)]
 pub struct Chain {
@@ -23,7 +23,7 @@ impl Chain {
         (Chain { modulus, order, done: 0 }, answer)
     }
 
-    /// Makes the running series S into C(S) for the cycle list C, by the route named, with this
+    /// Makes the running series S into S(C) for the cycle list C, by the route named, with this
     /// block length for route 2.
     pub fn cycle(
         self,
@@ -39,9 +39,15 @@ impl Chain {
             return (self, Answer { number, weight: 0 });
         }
         let places = running.len();
-        let (value, weight) = routes::by_number(route, modulus, list, running, places, block);
+        let (value, weight) = routes::by_number(route, modulus, running, list, places, block);
         running.copy_from_slice(&value);
         work[..refusals::cycle_work_places(order, list.len()) as usize].fill(0);
         (Chain { done: done + 1, ..self }, Answer { number, weight })
     }
+}
+
+/// The composition of the cycles, the earliest outermost, as a whole polynomial, nothing cut. Its
+/// degree is the product of theirs, so it is for few cycles or short ones.
+pub fn composition(p: u64, cycles: &[Vec<u32>]) -> Vec<u32> {
+    cycles.iter().fold(vec![0, 1], |outer, cycle| substitution::whole(p, &outer, cycle))
 }

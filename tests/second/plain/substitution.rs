@@ -1,6 +1,6 @@
 //! f(g) modulo x^n by the definition: the sum of f_i·g^i, the powers of g formed one by one. It
 //! uses neither the products nor the arithmetic of the routes: each sum is an exact whole number,
-//! and the remainder modulo p comes last.
+//! and the remainder modulo p comes last. The same for whole polynomials.
 
 /// The n coefficients of f(g), for lists f and g of any length.
 pub fn substitution(p: u64, f: &[u32], g: &[u32], n: usize) -> Vec<u32> {
@@ -15,6 +15,13 @@ pub fn substitution(p: u64, f: &[u32], g: &[u32], n: usize) -> Vec<u32> {
         }
     }
     total.iter().map(|&sum| (sum % u128::from(p)) as u32).collect()
+}
+
+/// All coefficients of f(g), nothing cut: as many as the product of the degrees tells, and one.
+pub fn whole(p: u64, f: &[u32], g: &[u32]) -> Vec<u32> {
+    let degree = |list: &[u32]| list.iter().rposition(|&place| place != 0).unwrap_or(0);
+    let outer = f.get(..=degree(f)).unwrap_or(f);
+    substitution(p, outer, g, degree(f) * degree(g) + 1)
 }
 
 /// Coefficient k of a·b: the sum of a_(k - j)·b_j, where a has more than k places.
