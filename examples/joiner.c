@@ -1,7 +1,7 @@
 /*
- * Builds a copy table of whole numbers: the coefficients of C(C(...)), the cycle series composed over several cycles, cut below a given
- * power. For each of the sixteen primes the cycles are those of a chain (ruhitapo_open, ruhitapo_cycle), which takes no series with a
- * constant term; where one has it, each cycle is a call of ruhitapo_compose. The residues are joined by Garner's method.
+ * Builds a copy table of whole numbers: the coefficients of C1(C2(...)), the cycle series composed over several cycles, the first one
+ * outermost, cut below a given power. For each of the sixteen primes the cycles are those of a chain (ruhitapo_open, ruhitapo_cycle), which
+ * takes no series with a constant term; where one has it, each cycle is a call of ruhitapo_compose. The residues are joined by Garner's method.
  *
  *     joiner ORDER CYCLES LIST...
  *
@@ -37,8 +37,9 @@ static const char use[] = "usage: joiner ORDER CYCLES LIST...\n"
                           "\n"
                           "Composes a series over CYCLES cycles and prints its coefficients below x^ORDER, one a line, that of power 0\n"
                           "first. ORDER is from 1 to 4096, CYCLES from 0 to 64. A LIST is a cycle series, such as 0,1,1: the whole\n"
-                          "numbers that stand before 1, x, x^2. With several lists the cycles take them in turn. A table is refused\n"
-                          "unless its numbers are sure to be below the product of the sixteen primes, which has 496 bits.\n"
+                          "numbers that stand before 1, x, x^2. With several lists the cycles take them in turn; the first cycle is\n"
+                          "outermost. A table is refused unless its numbers are sure to be below the product of the sixteen primes,\n"
+                          "which has 496 bits.\n"
                           "\n"
                           "With no arguments it is joiner 300 9 0,1,1 0,1,2.\n";
 
@@ -65,12 +66,13 @@ static void write_out(const char *text, size_t bytes)
         stop("the output could not be written whole: ", strerror(errno));
 }
 
-/* At least F(r) / r^power, where r is 1 halved so often. No number is negative, so what each step raises makes no later one smaller. */
+/* At least F(r) / r^power, where r is 1 halved so often: the value of the last series at r, that of the one before it there, and on. No number
+   is negative, so what each step raises makes no later one smaller. */
 static struct bound bound_at(int64_t halvings, size_t power, size_t cycles)
 {
     struct bound value = power_of_two(-halvings), factor = power_of_two(halvings * (int64_t)power);
     size_t i, k;
-    for (i = 0; i < cycles; i++) {
+    for (i = cycles; i-- > 0;) {
         const struct list *list = lists + i % list_count;
         struct bound next = leading(NULL, 0, 0);
         for (k = list->count; k-- > 0;) {
@@ -167,20 +169,21 @@ static void cycle_chain(uint32_t p, size_t n, size_t cycles, uint32_t *running)
     free(work);
 }
 
-/* The same with constant terms, in `out`: the running series begins as x, and each cycle composes its list with it. */
+/* The same with constant terms, in `out`. A series that is cut is right as the inner one, whatever its constant term, and not as the outer one:
+   so this begins with x and puts it into the last cycle, what that gives into the one before, and on. */
 static void compose_cycles(uint32_t p, size_t n, size_t cycles, uint32_t *out)
 {
     size_t places = RUHITAPO_WORK_PLACES(n, RUHITAPO_LONGEST_LIST), i, k;
-    uint32_t *work = memory(places * sizeof *work), *running = memory(n * sizeof *running);
+    uint32_t *work = memory(places * sizeof *work), *inner = memory(n * sizeof *inner);
     for (k = 0; k < n; k++)
         out[k] = k == 1;
-    for (i = 0; i < cycles; i++) {
+    for (i = cycles; i-- > 0;) {
         const struct list *list = reduced_list(i, p);
-        memcpy(running, out, n * sizeof *running);
+        memcpy(inner, out, n * sizeof *inner);
         see_accepted("ruhitapo_compose", ruhitapo_compose(RUHITAPO_KINOSHITA_LI, p, n, list->coefficient, list->count,
-                                                          running, n, out, n, work, places).number);
+                                                          inner, n, out, n, work, places).number);
     }
-    free(running);
+    free(inner);
     free(work);
 }
 

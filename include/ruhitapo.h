@@ -215,8 +215,8 @@ ruhitapo_cycle_answer ruhitapo_cycle_blocks_numbers(uint32_t modulus, size_t ord
                                                     uint32_t *work, size_t work_count);
 
 /*
- * A cycle of the chain: the running series S becomes C(S) modulo x^n by the route named, C being the list. p is the chain's modulus, n its
- * order. The buffer `running` holds the running series as the call before left it.
+ * A cycle of the chain: the running series S becomes S(C) modulo x^n by the route named, C being the list, so that the earliest cycle is
+ * outermost. p is the chain's modulus, n its order. The buffer `running` holds the running series as the call before left it.
  *
  * Refused if, tested in this order:
  *   1  route is not 1, 2, 3 or 4
@@ -230,7 +230,8 @@ ruhitapo_cycle_answer ruhitapo_cycle_blocks_numbers(uint32_t modulus, size_t ord
  *  11  64 or more cycles are done
  *
  * Accepted: running holds the n coefficients, each below p; the first 144 n + 8 list_count places of work are zero, later ones as before;
- * the chain has one more cycle done; the weight is that of ruhitapo_compose with the list as f. Refused: the chain is as it was.
+ * the chain has one more cycle done; the weight is that of ruhitapo_compose with an f of n places, as the running series is. Refused: the chain
+ * is as it was.
  */
 static inline ruhitapo_cycle_answer ruhitapo_cycle(ruhitapo_chain chain, uint32_t route,
                                                    const uint32_t *list, size_t list_count,
@@ -256,7 +257,7 @@ static inline ruhitapo_cycle_answer ruhitapo_cycle(ruhitapo_chain chain, uint32_
  *  10  the constant term of list or running is not zero
  *  11  64 or more cycles are done
  *
- * Accepted: as ruhitapo_cycle; the weight is that of ruhitapo_compose_blocks with the list as f. Refused: the chain is as it was.
+ * Accepted: as ruhitapo_cycle; the weight is that of ruhitapo_compose_blocks with an f of n places. Refused: the chain is as it was.
  */
 static inline ruhitapo_cycle_answer ruhitapo_cycle_blocks(ruhitapo_chain chain, uint32_t route, size_t block,
                                                           const uint32_t *list, size_t list_count,

@@ -9,9 +9,9 @@ import sys
 
 # the arguments of each example, and what it prints
 PRINTED = {
-    "chain": ([], "ok 5 10\n0 1 2 2 1\n"),
+    "chain": ([], "ok 5 20\n0 1 3 4 4\n"),
     "compose": ([], "ok 4 8\n1 2 5 6\n2147483647\n"),
-    "joiner": (["5", "2", "0,1,1"], "0\n1\n2\n2\n1\n"),
+    "joiner": (["5", "2", "0,1,1", "0,1,2"], "0\n1\n3\n4\n4\n"),
 }
 
 

@@ -29,6 +29,11 @@ pub fn all(random: &mut Random) -> Vec<Law> {
         let p = random.pick(&PRIMES);
         laws.push(cycle(random, p, done));
     }
+    // the second cycle of the settled case, by every route
+    for route in 1..=4 {
+        let chain = Chain { modulus: 7, order: 5, done: 1 };
+        laws.push(cycle_of(random, chain, (route, 4), &[0, 1, 2], &[0, 1, 1, 0, 0]));
+    }
     for index in 16..20 {
         laws.push(table(index));
     }
@@ -76,16 +81,26 @@ fn opening(random: &mut Random, prime: u64, fault: u64) -> Law {
 
 /// A cycle of a chain with so many done.
 fn cycle(random: &mut Random, modulus: u64, done: u64) -> Law {
-    let (route, block, n) = (random.route(), random.block(), random.count(1, 2));
-    let (mut c, mut before) = (random.list(modulus, 2), random.list(modulus, n));
+    let (way, n) = ((random.route(), random.block()), random.count(1, 3));
+    let (mut c, mut before) = (random.list(modulus, 3), random.list(modulus, n));
     c[0] = 0;
     before[0] = 0;
-    let places = refusals::cycle_work_places(n as u64, c.len()) as usize + random.count(0, 1);
+    cycle_of(random, Chain { modulus, order: n as u64, done }, way, &c, &before)
+}
+
+/// A cycle by this route and with this block length, from the running series as it was before.
+fn cycle_of(
+    random: &mut Random,
+    chain: Chain,
+    (route, block): (u64, u64),
+    c: &[u32],
+    before: &[u32],
+) -> Law {
+    let places = refusals::cycle_work_places(chain.order, c.len()) as usize + random.count(0, 1);
     let work_before = random.buffer(places);
-    let (mut series, mut work) = (before.clone(), work_before.clone());
-    let chain = Chain { modulus, order: n as u64, done };
-    let (after, answer) = chain.cycle(route, block, &c, &mut series, &mut work);
-    let lists = [&c, &before, &series, &work_before, &work].map(|places| list(places)).join(" ");
+    let (mut series, mut work) = (before.to_vec(), work_before.clone());
+    let (after, answer) = chain.cycle(route, block, c, &mut series, &mut work);
+    let lists = [c, before, &series, &work_before, &work].map(|places| list(places)).join(" ");
     let (before, after) = (record(chain), record(after));
     Law::promised(
         format!(

@@ -1,9 +1,8 @@
 //! The equations of the notions that a call is made of, a group for each. Arguments are small: the definitions are computed as they stand.
 
+use crate::plain::chain::{self, Chain};
 use crate::plain::random::Random;
-use crate::plain::{
-    chain::Chain, primes, refusals, render, reversion, substitution, taylor, weights,
-};
+use crate::plain::{primes, products, refusals, render, reversion, substitution, taylor, weights};
 
 /// Primes that the prover tests by the definition.
 pub const PRIMES: [u64; 5] = [2, 3, 5, 7, 11];
@@ -92,19 +91,20 @@ fn reverse(random: &mut Random) -> Vec<String> {
     equations
 }
 
+/// The composition of cycles, some of them with a constant term, which a chain refuses and the definition does not.
 fn running(random: &mut Random) -> String {
-    let (p, n) = (untested(random), random.count(1, 3));
-    let mut series = vec![0; n];
-    let mut work = vec![0; 1000];
-    let (mut chain, _) = Chain::open(p, n as u64, &mut series);
-    let mut cycles = Vec::new();
-    for _ in 0..random.count(0, 2) {
-        let mut cycle = random.list(p, 3);
-        cycle[0] = 0;
-        chain = chain.cycle(1, 4, &cycle, &mut series, &mut work).0;
-        cycles.push(list(&cycle));
+    let (p, n) = (untested(random), random.count(1, 5));
+    let mut cycles = vec![Vec::new(); random.count(0, 3)];
+    for cycle in &mut cycles {
+        let count = random.count(0, 3);
+        *cycle = random.list(p, count);
+        if let Some(constant) = cycle.first_mut() {
+            *constant = if random.once_in(4) { random.coefficient(p) } else { 0 };
+        }
     }
-    format!("running {p} {n} {} ≡ {}", list(&cycles), list(&series))
+    let series = products::places(&chain::composition(p, &cycles), n);
+    let shown: Vec<String> = cycles.iter().map(|cycle| list(cycle)).collect();
+    format!("running {p} {n} {} ≡ {}", list(&shown), list(&series))
 }
 
 /// The number of each call, at arguments on both sides of its bounds.

@@ -30,7 +30,7 @@ REFUSAL = re.compile(
 def value(halvings, cycles, lists):
     """The composed series at x = 2^-halvings."""
     x = TWO**-halvings
-    for i in range(cycles):
+    for i in reversed(range(cycles)):
         places = list(itertools.dropwhile(lambda c: c == 0, reversed(lists[i % len(lists)])))
         following = decimal.Decimal(places[0] if places else 0)
         for coefficient in places[1:]:
@@ -126,7 +126,7 @@ def grown(joiner, limit, report):
 def narrow(limit):
     """Settings with one coefficient that is not 0, just below the product of the primes or equal to it, and larger ones from the order on."""
     for value in [limit - 1, limit]:
-        yield value < limit, (1, 16, [[digit, 2**31] for digit in digits(value)])
+        yield value < limit, (1, 16, [[digit, 2**31] for digit in reversed(digits(value))])
     for last in [1, 0]:
         *others, least = primes()
         yield last > 0, (2, 16, [*([0, p, 1] for p in others), [0, least - last, 1]])

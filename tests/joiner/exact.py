@@ -38,10 +38,21 @@ def composed(f, g, n):
 
 
 def table(n, cycles, lists):
-    running = ([0, 1] + [0] * n)[:n]
+    """The cycles composed, the first one outermost: from the last one outwards."""
+    inner = ([0, 1] + [0] * n)[:n]
+    for i in reversed(range(cycles)):
+        inner = composed(lists[i % len(lists)], inner, n)
+    return inner
+
+
+def whole(n, cycles, lists):
+    """The same from the first cycle inwards, each put for x into all that stands around it: whole polynomials, cut at the end."""
+    outer = [0, 1]
     for i in range(cycles):
-        running = composed(lists[i % len(lists)], running, n)
-    return running
+        inner = lists[i % len(lists)]
+        places = (len(outer) - 1) * (len(inner) - 1) + 1
+        outer = composed(outer, inner, places)
+    return (outer + [0] * n)[:n]
 
 
 def text(coefficients):

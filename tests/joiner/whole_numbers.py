@@ -6,7 +6,7 @@ Usage: whole_numbers.py JOINER
 import math
 import sys
 
-from exact import Report, digits, primes, run, table, text, words
+from exact import Report, digits, primes, run, table, text, whole, words
 
 USUAL = (300, 9, [[0, 1, 1], [0, 1, 2]])
 
@@ -37,6 +37,16 @@ JOINED = [
     (64, 24, [[0, 4294967295]] * 18 + [[0, 0, 4294967295]] * 6),
     (8, 64, [[0, 4294967295], [0, 0, 4294967295]]),
     (3, 64, [[9, 0, 1], [7]]),
+]
+
+# the same with cycles that all differ, so that another order gives another table
+DIFFERENT = [
+    (5, 2, [[0, 1, 1], [0, 1, 2]]),
+    (40, 8, [[0, 9 - k, k] for k in range(1, 9)]),
+    (200, 8, [[0, 1, 1], [0, 1, 2], [0, 1, 3], [0, 2, 1], [0, 2, 3], [0, 3], [0, 3, 1], [0, 1, 4]]),
+    (64, 5, [[0, 1, 0, 2], [0, 0, 3], [0, 1, 1], [0, 7], [0, 2, 5, 1]]),
+    (30, 6, [[3, 1], [0, 1, 2], [1, 0, 0, 1], [2, 5], [0, 4, 1], [6, 1, 1]]),
+    (3, 4, [[4294967295, 1, 1], [0, 2, 0, 0, 0, 1], [1, 4294967295], [5, 0, 1]]),
 ]
 
 # arguments, and a part of what the program says
@@ -76,13 +86,13 @@ REFUSED = [
 def edge(value):
     """A setting whose table is `value` and zeros: its digits, by Horner."""
     cycles = [[digit, 2**31 if i else 0] for i, digit in enumerate(digits(value))]
-    return 2, len(cycles), cycles
+    return 2, len(cycles), cycles[::-1]
 
 
 def joined(joiner, limit, report):
     """How many whole numbers were compared, and the bits of the largest."""
     compared = largest = 0
-    for setting in JOINED + [edge(limit - 1)]:
+    for setting in JOINED + DIFFERENT + [edge(limit - 1)]:
         expected = table(*setting)
         assert max(expected) < limit, setting
         answer = run(joiner, *words(*setting))
@@ -90,6 +100,10 @@ def joined(joiner, limit, report):
         report.see(same, f"joined: joiner {' '.join(words(*setting))}: {answer.stderr}")
         compared += len(expected)
         largest = max(largest, *expected)
+    for n, cycles, lists in DIFFERENT:
+        expected = table(n, cycles, lists)
+        report.see(whole(n, cycles, lists) == expected, f"whole polynomials: {lists}")
+        report.see(table(n, cycles, lists[::-1]) != expected, f"another order, another table: {lists}")
     usual = run(joiner)
     report.see((usual.returncode, usual.stdout) == (0, text(table(*USUAL))), "joined: joiner with no arguments")
     return compared, largest.bit_length()
@@ -115,7 +129,7 @@ def main(joiner):
     refused(joiner, limit, report)
     helped(joiner, report)
     print(
-        f"joiner: {report.tried} runs, {compared} whole numbers compared, the largest of {bits} bits; {report.failures} failures"
+        f"joiner: {report.tried} checks, {compared} whole numbers compared, the largest of {bits} bits; {report.failures} failures"
     )
     return 1 if report.failures else 0
 

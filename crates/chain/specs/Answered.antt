@@ -2,7 +2,6 @@
 --
 --   identity-written                x modulo x^n is what `put` writes of the list 0 1
 --   open-refused open-accepted      opening
---   bounds-lent                     what number 0 of a cycle tells suffices for a route
 --   cycle-refused cycle-accepted    a cycle
 -- Assumes nothing.
 use Prim.Native.Nat.{ℕ, zero, suc, _+_}
@@ -23,8 +22,7 @@ use Rattle.definition.specs.Reversion.{identity, identityAt}
 use Rattle.definition.specs.Substitution.{constant}
 use Rattle.definition.specs.Weight.{weight}
 use Rattle.refusal.specs.Answers.{answered-accepted, answered-refused, kept-accepted, kept-refused}
-use Rattle.refusal.specs.Bounds.{CycleBounds, field-lent}
-use Rattle.route.specs.Contract.{Finished, Lent, Route, route-finished}
+use Rattle.route.specs.Contract.{Finished, Route, route-finished}
 
 coefficient-identity : (k : ℕ) → coefficient (0 ∷ 1 ∷ []) k ≡ identityAt k
 unfolding coefficient identityAt constant
@@ -61,11 +59,6 @@ module _ {p n : ℕ} (s : List ℕ) {number : ℕ} (tested : number ≡ openRefu
     records = refl;
     running = written ∙ ap identity size ∙ sym (kept-accepted (identity n) s refl);
   }
-
-pub bounds-lent : {route b work : ℕ} {chain : Chain} {c s : List ℕ} → CycleBounds route b chain c s work
-    → Lent (chain .modulus) (chain .order) (length s) work
-bounds-lent bounds =
-    field-lent (bounds .field) (omega (arith, bounds .running, bounds .field .order)) (omega (arith, bounds .running, bounds .enough))
 
 next-refused : (number : ℕ) (chain : Chain) → number ≢ 0 → nextChain number chain ≡ chain
 unfolding nextChain

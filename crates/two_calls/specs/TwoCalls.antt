@@ -58,7 +58,7 @@ accepted (compose {route} {b} {p} {n} {f = f} {g = g} {out = out} {work = work} 
     record { prime = bounds .field .prime; positive = bounds .field .positive; small = bounds .below-inner; answer = rw e at (q .output) }
 accepted (cycle {route} {b} {chain = chain} {c = c} {s = s} {work = work} q) e =
     let bounds = cycle-bounds route b chain c s (length work) (sym (q .refusal) ∙ e) in
-    record { prime = bounds .field .prime; positive = bounds .field .positive; small = bounds .below-inner; answer = rw e at (q .running) }
+    record { prime = bounds .field .prime; positive = bounds .field .positive; answer = rw e at (q .running); small = bounds .below-inner }
 
 equal-answers : {p n : ℕ} {f₁ g₁ out₁ f₂ g₂ out₂ : List ℕ} → Accepted p n f₁ g₁ out₁ → Accepted p n f₂ g₂ out₂
     → ((k : ℕ) → k < n → coefficient g₁ k ≡ coefficient g₂ k) → Answers p n f₁ g₁ out₁ f₂ g₂ out₂

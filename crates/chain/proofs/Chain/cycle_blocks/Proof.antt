@@ -3,9 +3,9 @@ use borrow.Author.Needs.{needs}
 use native.Mathlib.Omega.{arith}
 use lib.ListN.{length}
 use mathlib.Core.Path.{sym, _∙_}
-use Rattle.chain.specs.Answered.{bounds-lent, cycle-accepted, cycle-refused}
+use Rattle.chain.specs.Answered.{cycle-accepted, cycle-refused}
 use Rattle.chain.specs.Record.{recorded}
-use Rattle.refusal.specs.Bounds.{CycleBounds, cycle-bounds}
+use Rattle.refusal.specs.Bounds.{CycleBounds, cycle-bounds, field-lent}
 use Rattle.chain.proofs.Chain.cycle_blocks.Statement.{statement}
 use Rattle.chain.proofs.Chain.cycle_blocks.Tie as tie
 
@@ -31,8 +31,11 @@ module _ (c : tie.Else1) where
 
 run-requires : tie.Need-run-requires
 run-requires c κs =
-    let told = bounds (c .before .before) in
-    (bounds-lent told, told .field .prime, told .blocks)
+    let told = bounds (c .before .before) in (
+      field-lent (told .field) (omega (arith, told .running, told .inner, told .field .order)) (omega (arith, told .running, told .enough)),
+      told .field .prime,
+      told .blocks,
+    )
 
 value-requires : tie.Need-value-requires
 value-requires c κs = search needs
@@ -47,7 +50,7 @@ finish-requires c κs =
     let run = c .before .before .before .before .before .before in
     let b = bounds (run .before .before .before) in
     let size = run .run .kept .1 .1 .1 .1 .1 .1 .0 in (
-      omega (arith, b .running, bounds-lent b .enough, size),
+      omega (arith, b .running, b .enough, size),
       omega (arith, c .before .before .cycle-places .ensures, b .enough, size),
     )
 
