@@ -41,6 +41,7 @@ fn degree(cycles: &[Vec<u32>]) -> usize {
 /// after each cycle against the composition formed whole and cut at the end. The lists are
 /// shorter than, as long as and longer than n; the last one is empty.
 pub fn different_cycles<L: Library>(tally: &mut Tally, random: &mut Random) {
+    let mut counts = [0; 3];
     for (p, n) in [2, 7, LARGEST_PRIME].into_iter().flat_map(|p| [1, 2, 6, 66].map(|n| (p, n))) {
         let mut running = random.buffer(n);
         let (mut chain, _) = L::open(p, n as u64, &mut running);
@@ -50,17 +51,24 @@ pub fn different_cycles<L: Library>(tally: &mut Tally, random: &mut Random) {
             (chain, running) = next::<L>(tally, random, chain, &running, &cycles);
             tally.equal((p, n, &cycles), &running, &places(&whole(p, &cycles), n));
         }
+        for cycle in &cycles {
+            counts[(cycle.len().cmp(&n) as i8 + 1) as usize] += 1;
+        }
         cycles.push(Vec::new());
         (chain, running) = next::<L>(tally, random, chain, &running, &cycles);
         tally.equal((p, n, "full"), (chain.done, running), (64, vec![0; n]));
+    }
+    for (what, cases) in ["shorter than n", "as long as n", "longer than n"].iter().zip(counts) {
+        seen(tally, what, cases);
     }
 }
 
 /// A cycle list that is none of these, of a degree that keeps that of the composition small.
 fn different(random: &mut Random, p: u64, n: usize, cycles: &[Vec<u32>]) -> Vec<u32> {
     loop {
-        let (count, top) = (random.count(2, n + MOST_CYCLES), random.pick(&[1, 1, 1, 2, 3]));
-        let mut cycle = vec![0; count];
+        let (shorter, longer) = (random.count(2, n.max(2)), n + random.count(1, MOST_CYCLES));
+        let top = random.pick(&[1, 1, 1, 2, 3]);
+        let mut cycle = vec![0; random.pick(&[shorter, n.max(2), longer])];
         cycle[1] = random.non_zero(p);
         cycle.iter_mut().take(top + 1).skip(2).for_each(|place| *place = random.coefficient(p));
         let all = [cycles, &[cycle.clone()]].concat();
