@@ -11,7 +11,7 @@
 --   running-append         and with the running series of ds, that of a chain of its own
 use Prim.Native.Nat.{ℕ, _<_}
 use mathlib.Core.List.{List, List·Memᴰ, List·Memᴰ·head, List·Memᴰ·eq-of-singleton, List·Memᴰ·tail, [], _∷_, _++_}
-use mathlib.Core.Path.{_≡_, refl, sym, ap, _∙_}
+use mathlib.Core.Path.{_≡_, refl, sym, _∙_}
 use lib.ListN.{length}
 use Rattle.algebra.specs.Agree.{Agree, agree-equal, agree-refl, agree-trans}
 use Rattle.algebra.specs.Bridge.{
