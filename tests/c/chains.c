@@ -14,7 +14,8 @@ static struct {
 } accepted[MOST_CYCLES];
 
 /* A cycle of this chain with a random list, up to a few places longer than the order and empty in the last cycle, and, in every second, a block
-   length; in every fifth something is refused: the constant term, a coefficient, the work, the route, the block length of route 2. */
+   length; in every fifth something is refused: the constant term, a coefficient, the work, the route, the block length of route 2. The list has
+   a linear coefficient, so that the series does not vanish before. */
 static void next_cycle(struct call *c, struct chain chain)
 {
     uint64_t damage = random_below(25);
@@ -25,9 +26,10 @@ static void next_cycle(struct call *c, struct chain chain)
     c->route = damage == 0 ? 5 : damage == 4 ? 2 : 1 + (uint32_t)random_below(4);
     c->block_given = damage == 4 || random_below(2) == 0;
     c->block = damage == 4 ? random_refused_block() : random_block(c->route);
-    c->f_count = chain.done == MOST_CYCLES - 1 ? 0 : 1 + random_below(chain.order + 3);
+    c->f_count = chain.done == MOST_CYCLES - 1 ? 0 : 2 + random_below(chain.order + 2);
     random_list(c->p, c->f, c->f_count);
     c->f[0] = damage == 1;
+    c->f[1] = 1 + (uint32_t)random_below(c->p - 1);
     if (damage == 2 && c->f_count > 0)
         c->f[c->f_count - 1] = c->p;
     c->work_count = call_work_places(CYCLE, c->n, c->f_count, c->g_count) + random_below(3) - (damage == 3);
@@ -67,7 +69,7 @@ static struct returned cycled(struct call *call)
 /* The running series is the composition of the cycles, the earliest outermost: here from the last one, innermost, outwards. */
 static void compare_composition(const struct call *call, size_t cycles)
 {
-    size_t n = call->n, k;
+    size_t n = call->n, k, last = accepted[cycles - 1].count;
     uint32_t *inner = plain_memory(n * sizeof *inner), *value = plain_memory(n * sizeof *value);
     for (k = 0; k < n; k++)
         value[k] = k == 1;
@@ -77,6 +79,7 @@ static void compare_composition(const struct call *call, size_t cycles)
     }
     for (k = 0; k < n; k++)
         call_compare("composition of all cycles", value[k], call->g[k]);
+    call_compare("linear coefficient, but for the empty list and at order 1", 1, last == 0 || n == 1 || value[1] != 0);
     free(inner);
     free(value);
 }

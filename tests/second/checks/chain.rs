@@ -23,11 +23,11 @@ pub fn composition<L: Library>(tally: &mut Tally, random: &mut Random) {
     for number in 0..CHAINS {
         let (p, n) = (modulus(random), random.count(1, 10));
         let calls = if number % 10 == 0 { 90 } else { random.count(0, 12) };
-        let cycles = chain_of::<L>(tally, random, p, n, calls);
-        full += usize::from(cycles.len() == MOST_CYCLES);
+        let (cycles, running) = chain_of::<L>(tally, random, p, n, calls);
+        full += usize::from(cycles.len() == MOST_CYCLES && running.iter().any(|&place| place != 0));
         formed += usize::from(cycles.len() > 1 && degree(&cycles) <= LARGEST_DEGREE);
     }
-    seen(tally, "full chains", full);
+    seen(tally, "full chains whose series is not zero", full);
     seen(tally, "compositions formed whole", formed);
 }
 
@@ -119,14 +119,14 @@ pub fn changing_lengths<L: Library>(tally: &mut Tally, random: &mut Random) {
 }
 
 /// Opens a chain and makes so many calls of cycles, about a fifth of them broken. Gives back those
-/// that were accepted.
+/// that were accepted, and the running series.
 fn chain_of<L: Library>(
     tally: &mut Tally,
     random: &mut Random,
     p: u64,
     n: usize,
     calls: usize,
-) -> Vec<Vec<u32>> {
+) -> (Vec<Vec<u32>>, Vec<u32>) {
     let mut running = random.buffer(n);
     let (mut chain, _) = L::open(p, n as u64, &mut running);
     let mut cycles = Vec::new();
@@ -152,15 +152,21 @@ fn chain_of<L: Library>(
         tally.equal((p, n, &cycles), &value, &places(&whole(p, &cycles), n));
     }
     let record = Chain { modulus: p, order: n as u64, done: cycles.len() as u64 };
-    tally.equal((p, n, &cycles), (running, chain), (value, record));
-    cycles
+    tally.equal((p, n, &cycles), (&running, chain), (&value, record));
+    (cycles, running)
 }
 
 /// A cycle for this record and this running series, by a route and with a block length of its own.
+/// Its list has a linear coefficient, so that the series of a long chain does not vanish; once in 60
+/// times it is any list, an empty one too.
 pub fn cycle_input(random: &mut Random, chain: Chain, running: &[u32]) -> Input {
     let Chain { modulus: p, order: n, done } = chain;
-    let count = if random.once_in(40) { 0 } else { random.count(1, running.len() + 2) };
-    let (route, inner) = (random.route(), without_constant(random, p, count));
+    let any = random.once_in(60);
+    let count = random.count(if any { 0 } else { 2 }, running.len() + 2);
+    let (route, mut inner) = (random.route(), without_constant(random, p, count));
+    if !any {
+        inner[1] = random.non_zero(p);
+    }
     let (block, out) = (random.block_of(route), running.to_vec());
     let mut input = Input { route, block, p, n, done, inner, out, ..Input::default() };
     input.lend(random, Call::Cycle);
