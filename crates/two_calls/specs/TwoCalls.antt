@@ -48,14 +48,14 @@ Equality number₁ p₁ n₁ f₁ g₁ out₁ number₂ p₂ n₂ f₂ g₂ out�
 record Accepted (p n : ℕ) (f g out′ : List ℕ) : Type 0 where
   prime : Prime p
   positive : 0 < n
-  small : exceeds p g ≡ false
   answer : out′ ≡ composed p n f g
+  small : exceeds p g ≡ false
 
 accepted : {number p n : ℕ} {f g out′ : List ℕ} → Call number p n f g out′ → number ≡ 0 → Accepted p n f g out′
 unfolding kept
 accepted (compose {route} {b} {p} {n} {f = f} {g = g} {out = out} {work = work} q) e =
     let bounds = compose-bounds route b p n f g (length out) (length work) (sym (q .refusal) ∙ e) in
-    record { prime = bounds .field .prime; positive = bounds .field .positive; small = bounds .below-inner; answer = rw e at (q .output) }
+    record { prime = bounds .field .prime; positive = bounds .field .positive; answer = rw e at (q .output); small = bounds .below-inner }
 accepted (cycle {route} {b} {chain = chain} {c = c} {s = s} {work = work} q) e =
     let bounds = cycle-bounds route b chain c s (length work) (sym (q .refusal) ∙ e) in
     record { prime = bounds .field .prime; positive = bounds .field .positive; answer = rw e at (q .running); small = bounds .below-inner }
