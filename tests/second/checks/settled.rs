@@ -155,7 +155,9 @@ fn every_call<L: Library>(tally: &mut Tally, random: &mut Random, p: u64, n: usi
     tally.equal(("open", p, n), (answer.number, running == identity(n)), wanted);
     let (mut running, chain) = (identity(n), Chain { modulus: p, order: n as u64, done: 0 });
     let mut work = random.buffer(refusals::cycle_work_places(n as u64, series.len()) as usize);
-    let (_, answer) = L::cycle(chain, random.route(), None, &series, &mut running, &mut work);
+    // joins of 4096 outer coefficients by route 2 would take the second implementation long
+    let route = if n > 1000 { random.pick(&[1, 3, 4]) } else { random.route() };
+    let (_, answer) = L::cycle(chain, route, None, &series, &mut running, &mut work);
     let value = products::places(&series, n);
     tally.equal(("cycle", p, n), (answer.number, running == value), wanted);
 }

@@ -34,11 +34,10 @@ pub fn product_in_two_variables(
     (rows, places)
 }
 
-/// Adds a·b to the target, cut to the target's places; a remainder is taken after each term
-/// but those of a zero of a, which are left out.
+/// Adds a·b to the target, cut to the target's places; a remainder is taken after each term.
 fn add_product(p: u64, target: &mut [u32], a: &[u32], b: &[u32]) {
     let n = target.len();
-    for (i, &x) in a.iter().enumerate().take(n).filter(|&(_, &x)| x != 0) {
+    for (i, &x) in a.iter().enumerate().take(n) {
         for (place, &y) in target[i..].iter_mut().zip(b) {
             *place = field::remainder(p, u64::from(*place) + u64::from(x) * u64::from(y));
         }
