@@ -67,8 +67,8 @@ unfolding nextChain kept acceptedAfter
 called-chain {p} {n} {chain} {s} {cs} r {route} {b} zero {c = c} {work = work} q =
     let bounds = cycle-bounds route b chain c s (length work) (sym (q .refusal)) in
     let positive : 0 < p = rw (r .modulus) at (prime-positive (bounds .field .prime)) in
-    let composed-next : _≡_ {A = List ℕ} _ (composed p n (running p n cs) c) = rw (r .modulus, r .order, r .series) at (q .running) in
-    let series = composed-next ∙ running-next positive n cs c (bounds .constant-free) in
+    let next : _≡_ {A = List ℕ} _ (composed p n _ c) = rw (r .modulus, r .order, r .series) at (q .running) in
+    let series = next ∙ running-next positive n _ c (bounds .constant-free) in
     rw (q .records)
     (record {
       modulus = r .modulus;

@@ -1,9 +1,8 @@
 -- The twelve settled examples of 01 and the cases of requests N1 and N3, as rows of one table with one theorem.
 --
 --   Example     a row of the table: a job and its result
---   Leaves ..   cycles from a chain record and a running series on are accepted, one after the other, and leave a list
 --   Holds e     what the row says of the definitions
---   examples    the table, in the order of 01, then N1's case, then N3's by each route
+--   examples    the table, in the order of 01, then N1's case, then N3's: what the cycles leave, and each cycle
 --   settled     every row of the table holds
 --
 -- Assumes nothing.
@@ -32,7 +31,6 @@ use Rattle.definition.specs.Weight.{
   weight,
 }
 use Rattle.definition.specs.Prime.{indivisible, isPrime, largestModulus}
-use Rattle.definition.specs.Chain.{Chain, nextChain, openedChain}
 use Rattle.definition.specs.Refusal.{test, first, composeWork, cycleWork, badRoute, badBlock, badModulus, badOrder, tooLong, notPlaces, exceeds, irreversible, hasConstant, composeRefusal, reverseRefusal, cycleRefusal}
 use Rattle.definition.specs.Taylor.{binomial, shiftedTerm, shifted, leastPower, valuation, leadingAt, leading}
 use Rattle.definition.specs.Reversion.{identityAt, identity, Reversion}
@@ -53,14 +51,10 @@ pub data Example : Type 0 where
   not-reversing : ℕ → ℕ → List ℕ → ℕ → Example
   -- p, n, g, two outer lists; the output of both
   equal : ℕ → ℕ → List ℕ → List ℕ → List ℕ → List ℕ → Example
-  -- route, p, n, the cycles of a chain in their order; the running series, and the weight of each cycle
-  cycling : ℕ → ℕ → ℕ → List (List ℕ) → List ℕ → ℕ → Example
-
-abbrev pub Leaves : ℕ → Chain → List ℕ → List (List ℕ) → List ℕ → Type 0
-Leaves route chain s [] out = s ≡ out
-Leaves route chain s (c ∷ cs) out =
-    (cycleRefusal route blockLength chain c s (cycleWork (chain .order) (length c)) ≡ 0)
-    × Leaves route (nextChain 0 chain) (composed (chain .modulus) (chain .order) s c) cs out
+  -- p, n, the cycles of a chain in their order; the running series
+  chaining : ℕ → ℕ → List (List ℕ) → List ℕ → Example
+  -- route, p, n, the cycles done, the running series, the cycle list; the running series afterwards and the weight
+  cycling : ℕ → ℕ → ℕ → ℕ → List ℕ → List ℕ → List ℕ → ℕ → Example
 
 abbrev pub Holds : Example → Type 0
 Holds (composing route p n f g out w) =
@@ -73,9 +67,10 @@ Holds (weighing-lengths n m ws) = (p : ℕ) → tabulate (length ws) (λ i. weig
 Holds (reversing p n g h) = (reverseRefusal p n g n (composeWork n (length g)) ≡ 0) × Reversion p n g h
 Holds (not-reversing p n g number) = reverseRefusal p n g n (composeWork n (length g)) ≡ number
 Holds (equal p n g f₁ f₂ out) = (composed p n f₁ g ≡ out) × (composed p n f₂ g ≡ out) × (leading p n f₁ g ≡ leading p n f₂ g)
-Holds (cycling route p n cs out w) =
-    (running p n cs ≡ out)
-    × Leaves route (openedChain 0 p n) (identity n) cs out
+Holds (chaining p n cs s) = running p n cs ≡ s
+Holds (cycling route p n done s c s′ w) =
+    (cycleRefusal route blockLength (record { modulus = p; order = n; done = done }) c s (cycleWork n (length c)) ≡ 0)
+    × (composed p n s c ≡ s′)
     × (weight route blockLength p n n ≡ w)
 
 -- every row of a table holds
@@ -90,10 +85,6 @@ _and_ a b = (a, b)
 -- the four parts of a reversion, each found by computing
 reversion : {p n : ℕ} {g h : List ℕ} → length h ≡ n → exceeds p h ≡ false → coefficient h 0 ≡ 0 → composed p n g h ≡ identity n → Reversion p n g h
 reversion l b c r = record { places = l; below = b; no-constant = c; reverses = r }
-
--- N3's cycles
-abbrev pub touchdown : List (List ℕ)
-touchdown = (0 ∷ 1 ∷ 1 ∷ []) ∷ (0 ∷ 1 ∷ 2 ∷ []) ∷ []
 
 abbrev pub examples : List Example
 examples =
@@ -110,14 +101,16 @@ examples =
     ∷ reversing 7 1 (0 ∷ 0 ∷ 1 ∷ []) (0 ∷ [])
     ∷ equal 7 3 (0 ∷ 0 ∷ 1 ∷ []) (1 ∷ 1 ∷ []) (1 ∷ 1 ∷ 5 ∷ []) (1 ∷ 0 ∷ 1 ∷ [])
     ∷ weighing-lengths 4 9 (44 ∷ 44 ∷ 44 ∷ 44 ∷ 44 ∷ 44 ∷ 48 ∷ 44 ∷ replicate 56 32)
-    ∷ cycling 1 7 5 touchdown (0 ∷ 1 ∷ 3 ∷ 4 ∷ 4 ∷ []) 20
-    ∷ cycling 2 7 5 touchdown (0 ∷ 1 ∷ 3 ∷ 4 ∷ 4 ∷ []) 30
-    ∷ cycling 3 7 5 touchdown (0 ∷ 1 ∷ 3 ∷ 4 ∷ 4 ∷ []) 20
-    ∷ cycling 4 7 5 touchdown (0 ∷ 1 ∷ 3 ∷ 4 ∷ 4 ∷ []) 59
+    ∷ chaining 7 5 ((0 ∷ 1 ∷ 1 ∷ []) ∷ (0 ∷ 1 ∷ 2 ∷ []) ∷ []) (0 ∷ 1 ∷ 3 ∷ 4 ∷ 4 ∷ [])
+    ∷ cycling 1 7 5 0 (identity 5) (0 ∷ 1 ∷ 1 ∷ []) (0 ∷ 1 ∷ 1 ∷ 0 ∷ 0 ∷ []) 20
+    ∷ cycling 1 7 5 1 (0 ∷ 1 ∷ 1 ∷ 0 ∷ 0 ∷ []) (0 ∷ 1 ∷ 2 ∷ []) (0 ∷ 1 ∷ 3 ∷ 4 ∷ 4 ∷ []) 20
+    ∷ cycling 2 7 5 1 (0 ∷ 1 ∷ 1 ∷ 0 ∷ 0 ∷ []) (0 ∷ 1 ∷ 2 ∷ []) (0 ∷ 1 ∷ 3 ∷ 4 ∷ 4 ∷ []) 30
+    ∷ cycling 3 7 5 1 (0 ∷ 1 ∷ 1 ∷ 0 ∷ 0 ∷ []) (0 ∷ 1 ∷ 2 ∷ []) (0 ∷ 1 ∷ 3 ∷ 4 ∷ 4 ∷ []) 20
+    ∷ cycling 4 7 5 1 (0 ∷ 1 ∷ 1 ∷ 0 ∷ 0 ∷ []) (0 ∷ 1 ∷ 2 ∷ []) (0 ∷ 1 ∷ 3 ∷ 4 ∷ 4 ∷ []) 59
     ∷ []
 
 pub settled : Every examples
-unfolding sum tabulate coefficient ceilDiv productTerm product constant power substitutedTerm substituted composedAt composed partCount hornerWeight powerProducts joinProducts rangedProducts rangedWeight bernsteinLevels bernsteinWeight degreeBound halvingsFrom halvings kinoshitaLiLevels kinoshitaLiWeight weight lib.Count.ones lib.Count.onesIn lib.Count.leadingZeros indivisible isPrime largestModulus test first badRoute badBlock badModulus badOrder tooLong notPlaces exceeds irreversible hasConstant composeRefusal reverseRefusal cycleRefusal openedChain nextChain binomial shiftedTerm shifted leastPower valuation leadingAt leading identityAt identity composition runningAt running
+unfolding sum tabulate coefficient ceilDiv productTerm product constant power substitutedTerm substituted composedAt composed partCount hornerWeight powerProducts joinProducts rangedProducts rangedWeight bernsteinLevels bernsteinWeight degreeBound halvingsFrom halvings kinoshitaLiLevels kinoshitaLiWeight weight lib.Count.ones lib.Count.onesIn lib.Count.leadingZeros indivisible isPrime largestModulus test first badRoute badBlock badModulus badOrder tooLong notPlaces exceeds irreversible hasConstant composeRefusal reverseRefusal cycleRefusal binomial shiftedTerm shifted leastPower valuation leadingAt leading identityAt identity composition runningAt running
 settled =
     (refl, refl, refl)
     and (refl, refl, refl)
@@ -132,8 +125,10 @@ settled =
     and (refl, reversion refl refl refl refl)
     and (refl, refl, refl)
     and (λ p. refl)
-    and (refl, (refl, (refl, refl)), refl)
-    and (refl, (refl, (refl, refl)), refl)
-    and (refl, (refl, (refl, refl)), refl)
-    and (refl, (refl, (refl, refl)), refl)
+    and refl
+    and (refl, refl, refl)
+    and (refl, refl, refl)
+    and (refl, refl, refl)
+    and (refl, refl, refl)
+    and (refl, refl, refl)
     and tt

@@ -96,11 +96,11 @@ fn next<L: Library>(
 }
 
 /// Full chains in which every other cycle is by route 2, each time with another block length; every
-/// length has its turn, and every odd one at an order above 64, where it makes several blocks. Between
-/// them stand cycles by the other routes.
+/// length has its turn, at an order above 64, where it makes several blocks. Between them stand cycles
+/// by the other routes.
 pub fn changing_lengths<L: Library>(tally: &mut Tally, random: &mut Random) {
     for (p, turn) in [2, 7, LARGEST_PRIME].into_iter().flat_map(|p| [(p, 0), (p, 1)]) {
-        let n = if turn == 0 { random.count(2, 8) } else { random.count(65, 70) };
+        let n = random.count(65, 70);
         let mut running = random.buffer(n);
         let (mut chain, _) = L::open(p, n as u64, &mut running);
         for cycle in 1..=MOST_CYCLES as u64 {

@@ -27,7 +27,9 @@ module _ (c : tie.Else1) where
   bounds = compose-bounds _ _ _ _ _ _ _ _ (sym (c .before .compose .ensures) ∙ c .if1 .left)
 
 run-requires : tie.Need-run-requires
-run-requires c κs = (bounds-lent (bounds (c .before)), bounds (c .before) .field .prime, bounds (c .before) .blocks)
+run-requires c κs =
+    let told = bounds (c .before) in
+    (bounds-lent told, told .field .prime, search needs)
 
 value-requires : tie.Need-value-requires
 value-requires c κs = search needs

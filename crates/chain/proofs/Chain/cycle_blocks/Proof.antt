@@ -34,7 +34,7 @@ run-requires c κs =
     let told = bounds (c .before .before) in (
       field-lent (told .field) (omega (arith, told .running, told .inner, told .field .order)) (omega (arith, told .running, told .enough)),
       told .field .prime,
-      told .blocks,
+      search needs,
     )
 
 value-requires : tie.Need-value-requires
