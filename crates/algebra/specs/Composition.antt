@@ -3,6 +3,7 @@
 --   length-composed    a composition has n places
 --   series-composed    the series of a composition is the value of f at the series of g, below n
 --   series-constant    the series of a list without constant term has none
+--   value-indeterminate   the value of f at x is the series of f
 --   composed-constant  a list of at most one place is a constant
 --   composed-∷         Horner's rule: on which route 1 stands
 --   composed-++        the composition of an appended list, on which route 2 stands
@@ -39,8 +40,8 @@ use Rattle.algebra.specs.Power.{power}
 use Rattle.algebra.specs.Prime.{prime-positive}
 use Rattle.algebra.specs.Residue.{Residue, residue, residues, residues-negation, reduction, residue-0, residue-equal, residue-zero}
 use Rattle.algebra.specs.Semiring.{⊕-comm, ⊗-comm}
-use Rattle.algebra.specs.Series.{Series, tail, shift, shift-0, shift-suc, decompose, indeterminate-⊠}
-use Rattle.algebra.specs.Substitution.{evaluate-assoc, substitute-agree, substitute-coefficients}
+use Rattle.algebra.specs.Series.{Series, tail, shift, shift-0, shift-suc, decompose, indeterminate, indeterminate-0, indeterminate-⊠}
+use Rattle.algebra.specs.Substitution.{evaluate-assoc, substitute-agree, substitute-coefficients, substitute-into-indeterminate}
 use Rattle.algebra.specs.Vanishing.{taylor-agreement}
 use Rattle.algebra.specs.Valuation.{valuation-positive, valuation-zero, valuation-nonzero}
 use Rattle.algebra.specs.Lists.{tabulate-cong, coefficient-tabulate, length-tabulate, ceilDiv-below}
@@ -114,6 +115,12 @@ module _ {p : ℕ} (l : 0 < p) where
 
   pub series-constant : (h : List ℕ) → coefficient h 0 ≡ 0 → series-of l h 0 ≡ residues l .𝟘
   series-constant h e = rw (coefficients-at (reduction l), e, residue-0 l)
+
+  pub value-indeterminate : (f : List ℕ) → value l f (indeterminate (residues l)) ≡ series-of l f
+  unfolding coefficient
+  value-indeterminate f =
+      sym (substitute-coefficients (reduction l) (indeterminate (residues l)) (indeterminate-0 (residues l)) f)
+      ∙ substitute-into-indeterminate (residues l) (series-of l f)
 
   pub composed-outer : (n : ℕ) (f g h : List ℕ) → coefficient h 0 ≡ 0 → Agree n (coefficient f) (coefficient g)
       → composed p n f h ≡ composed p n g h

@@ -5,13 +5,15 @@
 --   reversion-unique      there is at most one reverse series
 --   reversion-symmetric   it is one from the other side too: h(g) is x modulo x^n
 --   reversion-none        where `irreversible` is true there is none
+--   composed-identity     f(x) is f, for a list of n places below p
+--   composed-undone       f(g(h)) is f, where h has no constant term and g(h) is x modulo x^n
 use Prim.Native.Nat.{ℕ, zero, suc, _<_}
 use mathlib.Core.List.{List}
 use borrow.Author.Tests.{ltb-true, eqb-true}
 use lib.Dec.{ltb, eqb}
 use mathlib.Core.Bool.{true, false, and-eq-true-iff}
 use mathlib.Core.Logic.{_≢_}
-use mathlib.Core.Path.{_≡_, refl, sym, _∙_}
+use mathlib.Core.Path.{_≡_, refl, sym, ap, _∙_}
 use lib.ListN.{length}
 use native.Mathlib.Nat.{mod-eq-of-lt}
 use native.Mathlib.Omega.{arith}
@@ -25,8 +27,11 @@ use Rattle.algebra.specs.Bridge.{
   listed,
   listed-agree,
   listed-series,
+  scalars,
+  series-listed,
 }
-use Rattle.algebra.specs.Composition.{series-constant}
+use Rattle.algebra.specs.Composition.{composed-assoc, series-constant, value-indeterminate}
+use Rattle.algebra.specs.Evaluate.{evaluate-agree}
 use Rattle.algebra.specs.Homomorphism.{coefficients-at}
 use Rattle.algebra.specs.Residue.{residues, residues-negation, residue-zero, residue-0, residue-1, reduction}
 use Rattle.algebra.specs.Reversion.{Reverse, reverse-constant, reverse-linear-nonzero, reverse-evaluate, reverse-unique, reverse-sym}
@@ -64,14 +69,14 @@ module _ {p : ℕ} (l : 0 < p) (above : 1 < p) where
         ∙ sym (identity-listed l n above);
   }
 
+  own : {n : ℕ} (h : List ℕ) → length h ≡ n → exceeds p h ≡ false → listed n (series-of l h) ≡ h
+  own {n} h e b = listed-series l n h e (λ i _. below l h b i)
+
   pub reversion-unique : {n : ℕ} (g h k : List ℕ) → Reversion p n g h → Reversion p n g k → h ≡ k
   reversion-unique {n} g h k r s =
-      sym (own h r)
+      sym (own h (r .places) (r .below))
       ∙ listed-agree (reverse-unique (residues l) (residues-negation l) n (reversion-reverse g h r) (reversion-reverse g k s))
-      ∙ own k s
-    where
-      own : (h : List ℕ) → Reversion p n g h → listed n (series-of l h) ≡ h
-      own h r = listed-series l n h (r .places) (λ i b. below l h (r .below) i)
+      ∙ own k (s .places) (s .below)
 
   pub reversion-symmetric : (n : ℕ) (g h : List ℕ) → Reversion p n g h → composed p n h g ≡ identity n
   unfolding coefficient composed identity tabulate
@@ -104,3 +109,14 @@ module _ {p : ℕ} (l : 0 < p) (above : 1 < p) where
       linear zero c s = omega (arith, c .0)
       linear (suc n) c s =
           reverse-linear-nonzero (residues l) one s (rw (coefficients-at (reduction l), c .1, residue-0 l))
+
+  pub composed-identity : {n : ℕ} (f : List ℕ) → length f ≡ n → exceeds p f ≡ false → composed p n f (identity n) ≡ f
+  composed-identity {n} f e b =
+      rw (composed-listed l n f (identity n), identity-listed l n above)
+      (listed-agree (evaluate-agree (residues l) (scalars l) f (series-listed l n (indeterminate (residues l))))
+      ∙ ap (listed n) (value-indeterminate l f)
+      ∙ own f e b)
+
+  pub composed-undone : {n : ℕ} (f g h : List ℕ) → length f ≡ n → exceeds p f ≡ false → coefficient h 0 ≡ 0
+      → composed p n g h ≡ identity n → composed p n (composed p n f g) h ≡ f
+  composed-undone {n} f g h e b z r = composed-assoc l n f g h z ∙ rw r (composed-identity f e b)

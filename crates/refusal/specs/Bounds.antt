@@ -3,13 +3,14 @@
 --   FieldBounds     what every call that has a modulus and an order tells of them; field-lent, it suffices for a route
 --   ComposeBounds ReverseBounds OpenBounds CycleBounds       what holds where a call is accepted
 --   compose-bounds reverse-bounds open-bounds cycle-bounds   number 0 tells that
+--   cycle-again     what one chain accepts another one of this modulus and order accepts, unless it is full
 --   reverse-nine    what number 9 of reverse tells
 --   list-passed     the tests of order and list passed, where their number is 0
 --   list-bounds     what holds of a list whose tests passed
 --   render-bounds   what number 0 of rendering tells
 -- Assumes nothing.
 use Prim.Native.Nat.{ℕ, _<_, _≤_}
-use borrow.Author.Tests.{leb-false, ltb-false}
+use borrow.Author.Tests.{eq-eqb, leb-false, lt-leb, ltb-false}
 use lib.ListN.{length}
 use mathlib.Core.Bool.{true, false}
 use mathlib.Core.List.{List}
@@ -18,7 +19,7 @@ use Rattle.algebra.specs.Prime.{prime-positive}
 use Rattle.definition.specs.Chain.{Chain}
 use Rattle.definition.specs.Lists.{coefficient}
 use Rattle.definition.specs.Prime.{Prime, largestModulus}
-use Rattle.definition.specs.Refusal.{badModulus, badOrder, composeRefusal, composeWork, cycleRefusal, cycleWork, exceeds, first, hasConstant, irreversible, limit, longestBlock, mostCycles, openRefusal, renderRefusal, reverseRefusal, test}
+use Rattle.definition.specs.Refusal.{badModulus, badOrder, composeRefusal, composeWork, cycleRefusal, cycleWork, exceeds, first, hasConstant, irreversible, limit, longestBlock, mostCycles, notPlaces, openRefusal, renderRefusal, reverseRefusal, test}
 use Rattle.field.specs.Opening.{good-modulus}
 use Rattle.refusal_tests.specs.Tests.{
   Passed,
@@ -27,6 +28,7 @@ use Rattle.refusal_tests.specs.Tests.{
   constant-zero,
   either-false,
   fired,
+  first-passed,
   length-within,
   listTests,
   order-within,
@@ -159,6 +161,43 @@ cycle-bounds route b chain c s work accepted =
       running-constant-free = constant-zero s (constants .1);
       not-full = leb-false mostCycles (chain .done) eleven;
     }
+
+-- s′ is the running series of the other chain
+pub cycle-again : (route b : ℕ) (chain chain′ : Chain) (c s s′ : List ℕ) (work : ℕ) → cycleRefusal route b chain c s work ≡ 0
+    → chain′ .modulus ≡ chain .modulus → chain′ .order ≡ chain .order → length s′ ≡ chain .order → exceeds (chain .modulus) s′ ≡ false
+    → coefficient s′ 0 ≡ 0 → chain′ .done < mostCycles → cycleRefusal route b chain′ c s′ work ≡ 0
+unfolding cycleRefusal absent Passed test hasConstant notPlaces
+cycle-again route b chain chain′ c s s′ work accepted modulus order places below constant-free not-full =
+    let (one, (fifteen, (two, (three, (five, (six, (seven, (eight, (ten, (eleven, _)))))))))) = passed 10 _ accepted refl .0 in
+    rw (modulus, order)
+    (first-passed _ (
+      one,
+      (
+        fifteen,
+        (
+          two,
+          (
+            three,
+            (
+              five,
+              (
+                rw (eq-eqb (length s′) (chain .order) places) refl,
+                (
+                  seven,
+                  (
+                    rw (either-false (exceeds (chain .modulus) c) (exceeds (chain .modulus) s) eight .0) below,
+                    (
+                      rw (either-false (hasConstant c) (hasConstant s) ten .0, constant-free) refl,
+                      (lt-leb mostCycles (chain′ .done) not-full, tt),
+                    ),
+                  ),
+                ),
+              ),
+            ),
+          ),
+        ),
+      ),
+    ))
 
 pub list-passed : (number n places : ℕ) → first (listTests number n places) ≡ 0 → Passed (listTests number n places)
 unfolding absent test

@@ -1,9 +1,10 @@
 -- Sequences of calls of a chain (demand 2): from an opened chain, each call given the record and the running series that the one before
 -- left. p is the modulus and n the order that the chain was opened with; a name with a prime (′) is a value after a call. Assumes nothing.
 --
---   acceptedAfter number c cs        the cycles accepted after a cycle c that returned this number, first cycle first
+--   acceptedAfter number c cs        the cycles, or calls, accepted after a c that returned this number, first one first
 --   Sequence p n chain s cs          calls that left this record and the running series s, and accepted the cycles cs
 --   ChainOf p n chain s cs           this record and this running series are those of the cycles cs
+--   sequence-field                   p and n are a modulus and an order
 --   sequence-running                 so it is after every sequence
 --   sequence-constant-free           no cycle that was accepted has a constant term
 use Prim.Native.Nat.{ℕ, zero, suc, _<_, _≤_}
@@ -30,9 +31,9 @@ use Rattle.definition.specs.Lists.{coefficient}
 use Rattle.definition.specs.Refusal.{mostCycles}
 use Rattle.definition.specs.Running.{running}
 use Rattle.definition.specs.Substitution.{composed}
-use Rattle.refusal.specs.Bounds.{cycle-bounds, open-bounds}
+use Rattle.refusal.specs.Bounds.{FieldBounds, cycle-bounds, open-bounds}
 
-unfoldable pub acceptedAfter : ℕ → List ℕ → List (List ℕ) → List (List ℕ)
+unfoldable pub acceptedAfter : {A : Type 0} → ℕ → A → List A → List A
 acceptedAfter zero c cs = cs ++ (c ∷ [])
 acceptedAfter (suc number) c cs = cs
 
@@ -50,6 +51,10 @@ pub record ChainOf (p n : ℕ) (chain : Chain) (s : List ℕ) (cs : List (List �
   pub series : s ≡ running p n cs
   pub places : length s ≡ n
   pub most : chain .done ≤ mostCycles
+
+pub sequence-field : {p n : ℕ} {chain : Chain} {s : List ℕ} {cs : List (List ℕ)} → Sequence p n chain s cs → FieldBounds p n
+sequence-field {p} {n} (opened {s} o e) = open-bounds p n (length s) (sym (o .refusal) ∙ e) .field
+sequence-field (called before q) = sequence-field before
 
 opened-chain : {p n weight : ℕ} {s s′ : List ℕ} {chain : Chain} → Open p n s s′ 0 weight chain → ChainOf p n chain s′ []
 unfolding openedChain kept
@@ -84,18 +89,19 @@ pub sequence-running : {p n : ℕ} {chain : Chain} {s : List ℕ} {cs : List (Li
 sequence-running (opened o e) = opened-chain (rw e at o)
 sequence-running (called before {number = number} q) = called-chain (sequence-running before) number q
 
-accepted-free : (number : ℕ) (c : List ℕ) (cs : List (List ℕ)) → ConstantFree cs → (number ≡ 0 → coefficient c 0 ≡ 0)
-    → ConstantFree (acceptedAfter number c cs)
+-- what holds of all that were accepted before, and of the new one where it is accepted
+pub accepted-all : {A : Type 0} (P : A → Type 0) (number : ℕ) (c : A) (cs : List A) → ((d : A) → List·Memᴰ d cs → P d) → (number ≡ 0 → P c)
+    → (d : A) → List·Memᴰ d (acceptedAfter number c cs) → P d
 unfolding acceptedAfter
-accepted-free zero c cs h z d m = go (List·Memᴰ·append-cases cs m)
+accepted-all P zero c cs h z d m = go (List·Memᴰ·append-cases cs m)
   where
-    go : List·Memᴰ d cs ⊎ List·Memᴰ d (c ∷ []) → coefficient d 0 ≡ 0
+    go : List·Memᴰ d cs ⊎ List·Memᴰ d (c ∷ []) → P d
     go (inl m) = h d m
     go (inr m) = rw (List·Memᴰ·eq-of-singleton m) (z refl)
-accepted-free (suc number) c cs h z d m = h d m
+accepted-all P (suc number) c cs h z d m = h d m
 
 pub sequence-constant-free : {p n : ℕ} {chain : Chain} {s : List ℕ} {cs : List (List ℕ)} → Sequence p n chain s cs → ConstantFree cs
 sequence-constant-free (opened o e) = λ c m. absurd (List·Memᴰ·not-nil m)
 sequence-constant-free (called {chain} {s} {cs} before {route} {b} {number} {c = c} {work = work} q) =
-    accepted-free number c cs (sequence-constant-free before)
+    accepted-all (λ d. coefficient d 0 ≡ 0) number c cs (sequence-constant-free before)
     (λ e. cycle-bounds route b chain c s (length work) (sym (q .refusal) ∙ e) .constant-free)
