@@ -24,12 +24,12 @@ mod streams;
 mod traps;
 
 use checks::support::{run, Check};
-use checks::{blocks, calls, equality, job, primes, render, reversion, settled};
+use checks::{blocks, calls, cut, equality, job, primes, render, reversion, settled};
 use compare::Both;
 use program::Built;
 use std::process::ExitCode;
 
-const GROUPS: [(&str, Check); 70] = [
+const GROUPS: [(&str, Check); 72] = [
     ("settled examples", settled::examples::<Both>),
     ("edges", settled::edges::<Both>),
     ("every small shape", shapes::every_small),
@@ -78,6 +78,8 @@ const GROUPS: [(&str, Check); 70] = [
     ("chain: 64 different cycles", checks::chain::different_cycles::<Both>),
     ("chain: larger orders", chain::larger_orders),
     ("chain: order 4096", chain::largest_order),
+    ("chain: cut at every cycle", cut::every_split::<Both>),
+    ("chain: cycles undone", cut::undone::<Both>),
     ("equality: random pairs", equality::random_pairs::<Both>),
     ("equality: random block lengths", equality::random_lengths::<Both>),
     ("equality: exhaustive pairs", equality::exhaustive_pairs::<Both>),

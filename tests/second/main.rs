@@ -7,11 +7,11 @@ mod plain;
 
 use checks::library::Plain;
 use checks::support::{run, Check};
-use checks::{blocks, calls, chain, equality, job, primes, render, reversion, routes, settled};
-use checks::{traps, wrong};
+use checks::{blocks, calls, chain, cut, equality, job, primes, render, reversion, routes};
+use checks::{settled, traps, wrong};
 use std::process::ExitCode;
 
-const GROUPS: [(&str, Check); 42] = [
+const GROUPS: [(&str, Check); 45] = [
     ("settled examples", settled::examples::<Plain>),
     ("whole case", settled::whole_case::<Plain>),
     ("edges", settled::edges::<Plain>),
@@ -43,6 +43,9 @@ const GROUPS: [(&str, Check); 42] = [
     ("chain: changing block lengths", chain::changing_lengths::<Plain>),
     ("chain: 64 different cycles", chain::different_cycles::<Plain>),
     ("chain: misread", wrong::chains),
+    ("chain: cut at every cycle", cut::every_split::<Plain>),
+    ("chain: cycles undone", cut::undone::<Plain>),
+    ("chain: cut and undone, misread", wrong::cut_and_undone),
     ("primality", primes::primality),
     ("table", primes::table::<Plain>),
     ("rendering", render::render::<Plain>),

@@ -37,7 +37,8 @@ pub fn join(
 }
 
 // A cycle and its undoing: the reverse series of the cycle list in `reverse`, then the cycle, then a cycle with the reverse series. Each is
-// called, whatever the one before answered. Where all three answered 0, the running series is as it was.
+// called, whatever the one before answered. Where all three answered 0, the running series is as it was. In the contract, running1 is what the
+// running series is between the two cycles, work1 and work2 what the work buffer holds before the first and before the second.
 pub fn undo(
     chain: Chain,
     route1: u32,
@@ -60,9 +61,8 @@ pub fn undo(
 {
     let reversed = reversion::reverse(chain.modulus, chain.order, list, reverse, work);
     let cycled = chain.cycle_blocks(route1, b1, list, running, work);
-    let undone = cycled
-        .chain
-        .cycle_blocks(route2, b2, reverse, running, work);
+    let next = cycled.chain;
+    let undone = next.cycle_blocks(route2, b2, reverse, running, work);
     Undone {
         reversed: reversed,
         cycled: cycled,

@@ -120,7 +120,7 @@ refused-none (called {chain} before {route} {b} {number} {c = c} {work = work} q
 pub accepts-again : {p n : ℕ} {chain chain₂ : Chain} {s s₂ : List ℕ} {cs cs₂ : List (List ℕ)} (long : Sequence p n chain s cs)
     (rest : Sequence p n chain₂ s₂ cs₂) (hs : List Handed) → accepted long ≡ hs ++ made rest → accepted rest ≡ made rest
 accepts-again long rest hs parts =
-    refused-none rest (λ h m. accepted-acceptable long h (rw parts (Memᴰ·append-right hs m)))
+    refused-none rest (λ h m. accepted-acceptable long h (rw (← parts) at (Memᴰ·append-right hs m)))
     (omega (arith, sequence-running long .most, accepted-done long, ap length parts, length-append hs (made rest)))
 
 pub data Run (p n : ℕ) (hs : List Handed) : Type 0 where

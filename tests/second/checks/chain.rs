@@ -6,6 +6,7 @@ use super::calls::accepted;
 use super::library::{Call, Input, Library};
 use super::reversion::identity;
 use super::support::{modulus, seen, Tally};
+use crate::plain::calls::Answer;
 use crate::plain::chain::{composition as whole, Chain};
 use crate::plain::primes::LARGEST_PRIME;
 use crate::plain::products::places;
@@ -13,7 +14,7 @@ use crate::plain::random::Random;
 use crate::plain::substitution::substitution;
 
 const CHAINS: usize = 400;
-const MOST_CYCLES: usize = 64;
+pub const MOST_CYCLES: usize = 64;
 
 /// The largest degree of a composition that is formed whole.
 const LARGEST_DEGREE: usize = 150;
@@ -23,7 +24,8 @@ pub fn composition<L: Library>(tally: &mut Tally, random: &mut Random) {
     for number in 0..CHAINS {
         let (p, n) = (modulus(random), random.count(1, 10));
         let calls = if number % 10 == 0 { 90 } else { random.count(0, 12) };
-        let (cycles, running) = chain_of::<L>(tally, random, p, n, calls);
+        let (accepted, running) = chain_of::<L>(tally, random, p, n, calls);
+        let cycles: Vec<Vec<u32>> = accepted.into_iter().map(|(input, _)| input.inner).collect();
         full += usize::from(cycles.len() == MOST_CYCLES && running.iter().any(|&place| place != 0));
         formed += usize::from(cycles.len() > 1 && degree(&cycles) <= LARGEST_DEGREE);
     }
@@ -119,17 +121,17 @@ pub fn changing_lengths<L: Library>(tally: &mut Tally, random: &mut Random) {
 }
 
 /// Opens a chain and makes so many calls of cycles, about a fifth of them broken. Gives back those
-/// that were accepted, and the running series.
-fn chain_of<L: Library>(
+/// that were accepted, each with its answer, and the running series.
+pub fn chain_of<L: Library>(
     tally: &mut Tally,
     random: &mut Random,
     p: u64,
     n: usize,
     calls: usize,
-) -> (Vec<Vec<u32>>, Vec<u32>) {
+) -> (Vec<(Input, Answer)>, Vec<u32>) {
     let mut running = random.buffer(n);
     let (mut chain, _) = L::open(p, n as u64, &mut running);
-    let mut cycles = Vec::new();
+    let (mut cycles, mut answered) = (Vec::new(), Vec::new());
     for _ in 0..calls {
         let mut input = cycle_input(random, chain, &running);
         let broken = if random.once_in(5) { random.pick(Call::Cycle.tests()) } else { 0 };
@@ -142,8 +144,10 @@ fn chain_of<L: Library>(
             continue;
         }
         (chain, running) = (left.chain, left.out.clone());
+        let answer = left.answer;
         accepted(tally, Call::Cycle, &input, left);
-        cycles.push(input.inner);
+        cycles.push(input.inner.clone());
+        answered.push((input, answer));
     }
     // from the innermost cycle outwards, which is the last one
     let around = |inner: Vec<u32>, outer: &Vec<u32>| substitution(p, outer, &inner, n);
@@ -153,7 +157,7 @@ fn chain_of<L: Library>(
     }
     let record = Chain { modulus: p, order: n as u64, done: cycles.len() as u64 };
     tally.equal((p, n, &cycles), (&running, chain), (&value, record));
-    (cycles, running)
+    (answered, running)
 }
 
 /// A cycle for this record and this running series, by a route and with a block length of its own.

@@ -4,6 +4,7 @@ pub mod blocks;
 pub mod broken;
 pub mod calls;
 pub mod chain;
+pub mod cut;
 pub mod equality;
 pub mod job;
 pub mod library;

@@ -1,13 +1,15 @@
-//! Libraries that misread the block length or what a cycle does, each in one way. The checks must find
+//! Libraries that misread the block length, what a cycle does or a reverse, each in one way. The checks must find
 //! fault with every one of them, and with nothing in the second implementation itself.
 
 use super::blocks::{beside_other_reasons, every_length};
 use super::chain::{composition, different_cycles};
+use super::cut::{every_split, undone};
 use super::library::{Library, Plain};
 use super::support::{Check, Tally};
 use crate::plain::calls::Answer;
 use crate::plain::chain::Chain;
 use crate::plain::primes::is_prime;
+use crate::plain::products::places;
 use crate::plain::random::Random;
 use crate::plain::routes::BLOCK_LENGTH;
 use crate::plain::substitution::substitution;
@@ -25,6 +27,7 @@ const LATEST_OUTERMOST: usize = 8;
 const WEIGHT_OF_THE_LIST: usize = 9;
 const FIRST_THEN_COUNTED: usize = 10;
 const LIST_CUT_TO_TWO_PLACES: usize = 11;
+const OWN_REVERSE: usize = 12;
 
 /// The second implementation with a misreading.
 struct Wrong<const MISREADING: usize>;
@@ -101,7 +104,11 @@ impl<const MISREADING: usize> Library for Wrong<MISREADING> {
     }
 
     fn reverse(p: u64, n: u64, g: &[u32], out: &mut [u32], work: &mut [u32]) -> Answer {
-        Plain::reverse(p, n, g, out, work)
+        let answer = Plain::reverse(p, n, g, out, work);
+        if answer.number == 0 && MISREADING == OWN_REVERSE {
+            out.copy_from_slice(&places(g, out.len()));
+        }
+        answer
     }
 
     fn open(p: u64, n: u64, running: &mut [u32]) -> (Chain, Answer) {
@@ -170,6 +177,16 @@ pub fn chains(tally: &mut Tally, random: &mut Random) {
         ("weight of each of 64 lists", different_cycles::<Wrong<WEIGHT_OF_THE_LIST>>),
         ("first of 64 cycles, then only counted", different_cycles::<Wrong<FIRST_THEN_COUNTED>>),
         ("64 lists cut to two places", different_cycles::<Wrong<LIST_CUT_TO_TWO_PLACES>>),
+    ];
+    faulted(tally, random, &wrong);
+}
+
+pub fn cut_and_undone(tally: &mut Tally, random: &mut Random) {
+    let wrong: [(&str, Check); 4] = [
+        ("latest cycle outermost, cut", every_split::<Wrong<LATEST_OUTERMOST>>),
+        ("first cycle, then only counted, cut", every_split::<Wrong<FIRST_THEN_COUNTED>>),
+        ("first cycle, then only counted, undone", undone::<Wrong<FIRST_THEN_COUNTED>>),
+        ("a series its own reverse", undone::<Wrong<OWN_REVERSE>>),
     ];
     faulted(tally, random, &wrong);
 }

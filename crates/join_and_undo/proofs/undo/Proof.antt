@@ -25,7 +25,7 @@ same-length-3 c = search needs
 returns : tie.Need-returns
 returns c =
     let after = c .before .before .before .before in
-    let between = after .before .before .before .before .before .before .before .before in
+    let between = after .before .before .before .before .before .before .before .before .before in
     let reversed = between .before .before .before .before .before .before .before .reverse .ensures in
     let cycled = between .cycle-blocks .ensures in
     let undone = after .cycle-blocks2 .ensures in
