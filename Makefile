@@ -120,10 +120,13 @@ c-interface: tools library
 installed: tools library
 	python3 -B tests/c/installed.py
 
-# the example that joins residues into whole numbers, held against exact integers: its tables, its bounds, its writing, its rounding; then
-# the line of its page that compiles it
+# the example that joins the halves of a protocol, and the one that joins residues into whole numbers, held against exact integers: of this one
+# its tables, its bounds, its writing, its rounding, and then the line of its page that compiles it
 joiner: tools library
 	mkdir -p $(EXAMPLES) $(dir $(ROUNDING))
+	$(CC99) -o $(EXAMPLES)/halves examples/halves.c $(ARCHIVE)
+	python3 -B tests/joiner/halves.py $(EXAMPLES)/halves
+	python3 -B tests/c/printed.py $(EXAMPLES) halves
 	$(CC99) -o $(EXAMPLES)/joiner examples/joiner.c $(ARCHIVE)
 	python3 -B tests/joiner/whole_numbers.py $(EXAMPLES)/joiner
 	python3 -B tests/joiner/bounds.py $(EXAMPLES)/joiner $(SEED)
