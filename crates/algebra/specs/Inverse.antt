@@ -69,6 +69,7 @@ module _ {p : ℕ} (l : 0 < p) (above : 1 < p) where
         ∙ sym (identity-listed l n above);
   }
 
+  -- a list of n places below p is read off its own series
   own : {n : ℕ} (h : List ℕ) → length h ≡ n → exceeds p h ≡ false → listed n (series-of l h) ≡ h
   own {n} h e b = listed-series l n h e (λ i _. below l h b i)
 

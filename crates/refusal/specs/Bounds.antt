@@ -3,7 +3,7 @@
 --   FieldBounds     what every call that has a modulus and an order tells of them; field-lent, it suffices for a route
 --   ComposeBounds ReverseBounds OpenBounds CycleBounds       what holds where a call is accepted
 --   compose-bounds reverse-bounds open-bounds cycle-bounds   number 0 tells that
---   cycle-again     what one chain accepts another one of this modulus and order accepts, unless it is full
+--   cycle-again     what one chain accepts another one of this modulus and order accepts, unless it is full or its series unfit
 --   reverse-nine    what number 9 of reverse tells
 --   list-passed     the tests of order and list passed, where their number is 0
 --   list-bounds     what holds of a list whose tests passed
@@ -12,7 +12,7 @@
 use Prim.Native.Nat.{ℕ, _<_, _≤_}
 use borrow.Author.Tests.{eq-eqb, leb-false, lt-leb, ltb-false}
 use lib.ListN.{length}
-use mathlib.Core.Bool.{true, false}
+use mathlib.Core.Bool.{true, false, _||_}
 use mathlib.Core.List.{List}
 use mathlib.Core.Path.{_≡_, refl}
 use Rattle.algebra.specs.Prime.{prime-positive}
@@ -168,36 +168,13 @@ pub cycle-again : (route b : ℕ) (chain chain′ : Chain) (c s s′ : List ℕ)
     → coefficient s′ 0 ≡ 0 → chain′ .done < mostCycles → cycleRefusal route b chain′ c s′ work ≡ 0
 unfolding cycleRefusal absent Passed test hasConstant notPlaces
 cycle-again route b chain chain′ c s s′ work accepted modulus order places below constant-free not-full =
-    let (one, (fifteen, (two, (three, (five, (six, (seven, (eight, (ten, (eleven, _)))))))))) = passed 10 _ accepted refl .0 in
-    rw (modulus, order)
-    (first-passed _ (
-      one,
-      (
-        fifteen,
-        (
-          two,
-          (
-            three,
-            (
-              five,
-              (
-                rw (eq-eqb (length s′) (chain .order) places) refl,
-                (
-                  seven,
-                  (
-                    rw (either-false (exceeds (chain .modulus) c) (exceeds (chain .modulus) s) eight .0) below,
-                    (
-                      rw (either-false (hasConstant c) (hasConstant s) ten .0, constant-free) refl,
-                      (lt-leb mostCycles (chain′ .done) not-full, tt),
-                    ),
-                  ),
-                ),
-              ),
-            ),
-          ),
-        ),
-      ),
-    ))
+    let (one, (fifteen, (two, (three, (five, (_, (seven, (eight, (ten, (_, _)))))))))) = passed 10 _ accepted refl .0 in
+    let six : notPlaces (chain .order) (length s′) ≡ false = rw (eq-eqb (length s′) (chain .order) places) refl in
+    let list-below = either-false (exceeds (chain .modulus) c) (exceeds (chain .modulus) s) eight .0 in
+    let eight : (exceeds (chain .modulus) c || exceeds (chain .modulus) s′) ≡ false = rw list-below below in
+    let ten : (hasConstant c || hasConstant s′) ≡ false = rw (either-false (hasConstant c) (hasConstant s) ten .0, constant-free) refl in
+    let eleven = lt-leb mostCycles (chain′ .done) not-full in
+    rw (modulus, order) (first-passed _ (one, (fifteen, (two, (three, (five, (six, (seven, (eight, (ten, (eleven, tt)))))))))))
 
 pub list-passed : (number n places : ℕ) → first (listTests number n places) ≡ 0 → Passed (listTests number n places)
 unfolding absent test

@@ -3,7 +3,8 @@
 --   Handed           what a call of a cycle is handed
 --   made accepted    the calls of a sequence, and those of them that returned 0, first call first
 --   accepted-lists   the cycles that a sequence accepted are the lists of the calls that it accepted
---   accepts-again    a chain that is handed calls that another one of this p and n accepted accepts them all, if it is handed no more
+--   accepted-done    a chain has done as many cycles as it accepted calls
+--   accepts-again    a chain that is handed at most 64 calls, each of which another one of this p and n accepted, accepts them all
 --   Run p n hs       an opened chain that was handed the calls hs
 --   runs             where one chain opened, every list of calls can be handed to another one of this p and n
 use Prim.Native.Nat.{ℕ, zero, suc, _<_, _≤_}
@@ -66,7 +67,6 @@ unfolding acceptedAfter
 lists-after zero h hs = map-append (λ g. g .list) hs (h ∷ [])
 lists-after (suc number) h hs = refl
 
--- the cycles that a sequence accepted are the lists of the calls that it accepted
 pub accepted-lists : {p n : ℕ} {chain : Chain} {s : List ℕ} {cs : List (List ℕ)} (q : Sequence p n chain s cs) → lists (accepted q) ≡ cs
 unfolding accepted
 accepted-lists (opened o e) = refl
@@ -101,8 +101,7 @@ acceptable-again {p} {n} {chain} {s} {cs} q room h a =
     (rw (a .modulus, r .series) (running-below l n cs))
     (rw (r .series) (running-constant l (field .positive) cs (sequence-constant-free q))) room
 
--- so many cycles were done as calls were accepted
-accepted-done : {p n : ℕ} {chain : Chain} {s : List ℕ} {cs : List (List ℕ)} (q : Sequence p n chain s cs) → chain .done ≡ length (accepted q)
+pub accepted-done : {p n : ℕ} {chain : Chain} {s : List ℕ} {cs : List (List ℕ)} (q : Sequence p n chain s cs) → chain .done ≡ length (accepted q)
 accepted-done q = sequence-running q .counts ∙ ap length (sym (accepted-lists q)) ∙ length-map (accepted q) (λ h. h .list)
 
 refused-none : {p n : ℕ} {chain : Chain} {s : List ℕ} {cs : List (List ℕ)} (q : Sequence p n chain s cs)
@@ -118,10 +117,9 @@ refused-none (called {chain} before {route} {b} {number} {c = c} {work = work} q
     rw (accepts, earlier) refl
 
 pub accepts-again : {p n : ℕ} {chain chain₂ : Chain} {s s₂ : List ℕ} {cs cs₂ : List (List ℕ)} (long : Sequence p n chain s cs)
-    (rest : Sequence p n chain₂ s₂ cs₂) (hs : List Handed) → accepted long ≡ hs ++ made rest → accepted rest ≡ made rest
-accepts-again long rest hs parts =
-    refused-none rest (λ h m. accepted-acceptable long h (rw (← parts) at (Memᴰ·append-right hs m)))
-    (omega (arith, sequence-running long .most, accepted-done long, ap length parts, length-append hs (made rest)))
+    (other : Sequence p n chain₂ s₂ cs₂) → ((h : Handed) → List·Memᴰ h (made other) → List·Memᴰ h (accepted long))
+    → length (made other) ≤ mostCycles → accepted other ≡ made other
+accepts-again long other within most = refused-none other (λ h m. accepted-acceptable long h (within h m)) most
 
 pub data Run (p n : ℕ) (hs : List Handed) : Type 0 where
   run : {chain : Chain} {s : List ℕ} {cs : List (List ℕ)} (q : Sequence p n chain s cs) → made q ≡ hs → Run p n hs
@@ -129,7 +127,9 @@ pub data Run (p n : ℕ) (hs : List Handed) : Type 0 where
 run-next : {p n : ℕ} {hs : List Handed} → Run p n hs → (h : Handed) → Run p n (hs ++ (h ∷ []))
 unfolding made
 run-next (run q e) h =
-    run (called q {route = h .route} {b = h .block} {c = h .list} {work = h .work} (record { refusal = refl; weighs = refl; records = refl; running = refl; clears = refl }))
+    run
+    (called q {route = h .route} {b = h .block} {c = h .list} {work = h .work}
+    (record { refusal = refl; weighs = refl; records = refl; running = refl; clears = refl }))
     (ap (λ hs. hs ++ (h ∷ [])) e)
 
 run-from : {p n : ℕ} (hs : List Handed) → Run p n hs → (gs : List Handed) → Run p n (hs ++ gs)
