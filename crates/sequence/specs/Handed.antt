@@ -24,7 +24,7 @@ use mathlib.Core.List.{
   map-append,
 }
 use mathlib.Core.Path.{_≡_, refl, sym, ap, _∙_}
-use lib.ListN.{length, length-append, length-map}
+use lib.ListN.{length, length-append, length-map, length-replicate, replicate}
 use native.Mathlib.Omega.{arith}
 use Rattle.algebra.specs.Prime.{prime-positive}
 use Rattle.definition.specs.Chain.{Chain}
@@ -46,18 +46,19 @@ pub record Handed : Type 0 where
   pub route : ℕ
   pub block : ℕ
   pub list : List ℕ
-  pub work : List ℕ
+  -- the count of places; what they hold has no effect on the answer
+  pub work : ℕ
 
-abbrev handed : ℕ → ℕ → List ℕ → List ℕ → Handed
+abbrev handed : ℕ → ℕ → List ℕ → ℕ → Handed
 handed route b c work = record { route = route; block = b; list = c; work = work }
 
 unfoldable pub made : {p n : ℕ} {chain : Chain} {s : List ℕ} {cs : List (List ℕ)} → Sequence p n chain s cs → List Handed
 made (opened o e) = []
-made (called before {route} {b} {c = c} {work = work} q) = made before ++ (handed route b c work ∷ [])
+made (called before {route} {b} {c = c} {work = work} q) = made before ++ (handed route b c (length work) ∷ [])
 
 unfoldable pub accepted : {p n : ℕ} {chain : Chain} {s : List ℕ} {cs : List (List ℕ)} → Sequence p n chain s cs → List Handed
 accepted (opened o e) = []
-accepted (called before {route} {b} {number} {c = c} {work = work} q) = acceptedAfter number (handed route b c work) (accepted before)
+accepted (called before {route} {b} {number} {c = c} {work = work} q) = acceptedAfter number (handed route b c (length work)) (accepted before)
 
 abbrev pub lists : List Handed → List (List ℕ)
 lists hs = map (λ h. h .list) hs
@@ -78,7 +79,7 @@ record Acceptable (p n : ℕ) (h : Handed) : Type 0 where
   series : List ℕ
   modulus : chain .modulus ≡ p
   order : chain .order ≡ n
-  accepts : cycleRefusal (h .route) (h .block) chain (h .list) series (length (h .work)) ≡ 0
+  accepts : cycleRefusal (h .route) (h .block) chain (h .list) series (h .work) ≡ 0
 
 accepted-acceptable : {p n : ℕ} {chain : Chain} {s : List ℕ} {cs : List (List ℕ)} (q : Sequence p n chain s cs) (h : Handed)
     → List·Memᴰ h (accepted q) → Acceptable p n h
@@ -91,12 +92,12 @@ accepted-acceptable {p} {n} (called {chain} {s} before {number = number} q) =
 
 -- a chain that has room accepts it
 acceptable-again : {p n : ℕ} {chain : Chain} {s : List ℕ} {cs : List (List ℕ)} → Sequence p n chain s cs → chain .done < mostCycles
-    → (h : Handed) → Acceptable p n h → cycleRefusal (h .route) (h .block) chain (h .list) s (length (h .work)) ≡ 0
+    → (h : Handed) → Acceptable p n h → cycleRefusal (h .route) (h .block) chain (h .list) s (h .work) ≡ 0
 acceptable-again {p} {n} {chain} {s} {cs} q room h a =
     let field = sequence-field q in
     let r = sequence-running q in
     let l = prime-positive (field .prime) in
-    cycle-again (h .route) (h .block) (a .chain) chain (h .list) (a .series) s (length (h .work)) (a .accepts)
+    cycle-again (h .route) (h .block) (a .chain) chain (h .list) (a .series) s (h .work) (a .accepts)
     (r .modulus ∙ sym (a .modulus)) (r .order ∙ sym (a .order)) (r .places ∙ sym (a .order))
     (rw (a .modulus, r .series) (running-below l n cs))
     (rw (r .series) (running-constant l (field .positive) cs (sequence-constant-free q))) room
@@ -109,7 +110,7 @@ refused-none : {p n : ℕ} {chain : Chain} {s : List ℕ} {cs : List (List ℕ)}
 unfolding made accepted acceptedAfter
 refused-none (opened o e) fits most = refl
 refused-none (called {chain} before {route} {b} {number} {c = c} {work = work} q) fits most =
-    let h = handed route b c work in
+    let h = handed route b c (length work) in
     let count = length-append (made before) (h ∷ []) in
     let earlier = refused-none before (λ g m. fits g (Memᴰ·append-left _ m)) (omega (arith, count)) in
     let room : chain .done < mostCycles = omega (arith, accepted-done before, ap length earlier, count) in
@@ -128,9 +129,9 @@ run-next : {p n : ℕ} {hs : List Handed} → Run p n hs → (h : Handed) → Ru
 unfolding made
 run-next (run q e) h =
     run
-    (called q {route = h .route} {b = h .block} {c = h .list} {work = h .work}
+    (called q {route = h .route} {b = h .block} {c = h .list} {work = replicate (h .work) 0}
     (record { refusal = refl; weighs = refl; records = refl; running = refl; clears = refl }))
-    (ap (λ hs. hs ++ (h ∷ [])) e)
+    (rw (e, length-replicate {A = ℕ} (h .work) 0) refl)
 
 run-from : {p n : ℕ} (hs : List Handed) → Run p n hs → (gs : List Handed) → Run p n (hs ++ gs)
 run-from hs r [] = rw (append-nil hs) r

@@ -40,8 +40,8 @@ pub fn every_split<L: Library>(tally: &mut Tally, random: &mut Random) {
     seen(tally, "splits that show the order", ordered);
 }
 
-/// A fresh chain that is handed these calls: it answers as the long one did and clears as much of the
-/// work buffer. Gives back its running series.
+/// A fresh chain that is handed these calls, with work buffers as long: it answers as the long one
+/// did. Gives back its running series.
 fn fresh_chain<L: Library>(
     tally: &mut Tally,
     random: &mut Random,
@@ -52,7 +52,8 @@ fn fresh_chain<L: Library>(
     let mut running = random.buffer(n);
     let (mut chain, _) = L::open(p, n as u64, &mut running);
     for (handed, answer) in calls {
-        let input = Input { done: chain.done, out: running, ..handed.clone() };
+        let (done, work) = (chain.done, random.buffer(handed.work.len()));
+        let input = Input { done, out: running, work, ..handed.clone() };
         let left = Call::Cycle.make::<L>(&input);
         (chain, running) = (left.chain, left.out.clone());
         let wanted = Call::Cycle.accepted(&input, running.clone(), answer.weight);
