@@ -81,51 +81,84 @@ fn joined<L: Library>(
     tally.equal(&input, left, Call::Compose.accepted(&input, whole.clone(), weight));
 }
 
-/// A cycle and then one with its reverse series, as the library gives it, after some other cycles: by
-/// lists shorter than n, as long and longer, and by reverse series with further places.
+/// How many places the reverse series is handed with: those of the order, or fewer, without its last
+/// zeros, or further ones, which no answer reads.
+#[derive(Clone, Copy, Debug)]
+enum Count {
+    Order,
+    Fewer,
+    More,
+}
+
+/// A cycle and then one with its reverse series, as the library gives it: by lists of two places,
+/// shorter than n, as long and longer.
 pub fn undone<L: Library>(tally: &mut Tally, random: &mut Random) {
-    let mut moved = 0;
+    let (mut moved, mut fewer) = (0, 0);
     for (p, n) in [2, 3, 7, LARGEST_PRIME].into_iter().flat_map(|p| [1, 2, 300].map(|n| (p, n))) {
         let (shorter, longer) = (random.count(2, n.max(2)), n + random.count(1, 9));
-        for places in [shorter, n, longer] {
+        let counts = [Count::Fewer, Count::More, Count::Order, Count::More];
+        for (places, count) in [2, shorter, n, longer].into_iter().zip(counts) {
             let cycle = reversible(random, p, places);
-            moved += usize::from(undo::<L>(tally, random, p, n, cycle));
+            let reversed = reverse_series::<L>(tally, random, p, n, &cycle, count);
+            fewer += usize::from(reversed.len() < n);
+            moved += usize::from(undo::<L>(tally, random, p, n, &cycle, &reversed));
         }
     }
     // below x^1 every list without constant term has the reverse series 0
     for cycle in [vec![], vec![0]] {
-        undo::<L>(tally, random, 7, 1, cycle);
+        let reversed = reverse_series::<L>(tally, random, 7, 1, &cycle, Count::Order);
+        undo::<L>(tally, random, 7, 1, &cycle, &reversed);
     }
     seen(tally, "cycles that change the running series", moved);
+    seen(tally, "reverse series of fewer places", fewer);
 }
 
-/// One cycle after two others, and its undoing, with a refused call between. Whether it changed the
-/// running series.
+/// The reverse series of a cycle list as the library gives it, with this count of places.
+fn reverse_series<L: Library>(
+    tally: &mut Tally,
+    random: &mut Random,
+    p: u64,
+    n: usize,
+    cycle: &[u32],
+    count: Count,
+) -> Vec<u32> {
+    let (answer, mut series) = reverse::<L>(random, p, cycle, n);
+    tally.equal((p, n, cycle), answer, Answer { number: 0, weight: 0 });
+    match count {
+        Count::Order => (),
+        Count::Fewer => {
+            let last = series.iter().rposition(|&place| place != 0);
+            series.truncate(last.map_or(0, |last| last + 1));
+        }
+        Count::More => series.extend(random.list(p, 5)),
+    }
+    series
+}
+
+/// A cycle after two others, a refused call, and a cycle with the reverse series: the running series
+/// is as it was. Whether the cycle had changed it.
 fn undo<L: Library>(
     tally: &mut Tally,
     random: &mut Random,
     p: u64,
     n: usize,
-    cycle: Vec<u32>,
+    cycle: &[u32],
+    reversed: &[u32],
 ) -> bool {
-    let (answer, series) = reverse::<L>(random, p, &cycle, n);
-    tally.equal((p, n, &cycle), answer, Answer { number: 0, weight: 0 });
-    let mut further = series;
-    let places = random.pick(&[0, 0, 5]);
-    further.extend(random.list(p, places));
     let mut running = random.buffer(n);
     let (mut chain, _) = L::open(p, n as u64, &mut running);
     for _ in 0..2 {
         let list = reversible(random, p, 3);
         (chain, running) = cycled::<L>(tally, random, chain, &running, &list);
     }
-    let (next, changed) = cycled::<L>(tally, random, chain, &running, &cycle);
+    let (next, changed) = cycled::<L>(tally, random, chain, &running, cycle);
     let mut input = cycle_input(random, next, &changed);
     input.alter(random, Call::Cycle, &[10]);
     let left = Call::Cycle.make::<L>(&input);
     tally.equal(&input, left, Call::Cycle.refused(&input, 10));
-    let (last, restored) = cycled::<L>(tally, random, next, &changed, &further);
-    tally.equal((p, n, &cycle, &further), (&restored, last.done), (&running, chain.done + 2));
+    let (last, restored) = cycled::<L>(tally, random, next, &changed, reversed);
+    let wanted = (&running, chain.done + 2);
+    tally.equal((p, n, cycle, reversed), (&restored, last.done), wanted);
     changed != running
 }
 
