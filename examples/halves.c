@@ -4,7 +4,7 @@
  *
  *     halves MODULUS ORDER LIST... / LIST...
  *
- * A list is a cycle series, such as 0,1,1: the numbers below MODULUS that stand before 1, x, x^2. Those before the stroke are the cycles of
+ * A list is a cycle series, such as 0,1,1: the numbers below MODULUS that stand before 1, x, x^2. Those before the slash are the cycles of
  * the first half. Printed is the answer of the call that joins them or, with status 1, of the first call that was refused. With no arguments it
  * is halves 7 5 0,1,1 / 0,1,2.
  */
@@ -62,7 +62,7 @@ static size_t read_list(const char *words)
     return count;
 }
 
-/* Carries out the cycles of one half in a chain of its own. Gives back the arguments that it did not read: the stroke and what follows it, or none. */
+/* Carries out the cycles of one half in a chain of its own. Gives back the arguments that it did not read: the slash and what follows it, or none. */
 static char **carry_out(uint32_t p, size_t n, char **arguments, uint32_t *series)
 {
     ruhitapo_open_answer opened = ruhitapo_open(p, n, series, n);
@@ -96,10 +96,10 @@ int main(int count, char **arguments)
         stop("not an order up to 4096: ", rest[2]);
     rest = carry_out(p, n, rest + 3, running[0]);
     if (*rest == NULL)
-        stop("a stroke is wanted between the halves", "");
+        stop("a slash is wanted between the halves", "");
     rest = carry_out(p, n, rest + 1, running[1]);
     if (*rest != NULL)
-        stop("one stroke is wanted, and there is a second", "");
+        stop("one slash is wanted, and there is a second", "");
     joined = ruhitapo_compose(RUHITAPO_KINOSHITA_LI, p, n, running[0], n, running[1], n, whole, n, work, WORK);
     answer(joined.number, n, joined.weight);
     return 1;

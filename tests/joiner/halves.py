@@ -32,7 +32,7 @@ REFUSED = [
     (["7"], "", "a modulus and an order"),
     (["7", "4097", "/"], "", "not an order up to 4096"),
     (["7x", "5", "/"], "", "not a modulus"),
-    (["7", "5", "0,1"], "", "a stroke is wanted"),
+    (["7", "5", "0,1"], "", "a slash is wanted"),
     (["7", "5", "/", "0,1", "/"], "", "there is a second"),
     (["7", "5", "0,,1", "/"], "", "not a whole number"),
     (["7", "5", "0,1,", "/"], "", "not a whole number"),

@@ -6,6 +6,7 @@
 --   ChainOf p n chain s cs           this record and this running series are those of the cycles cs
 --   sequence-field                   p and n are a modulus and an order
 --   sequence-running                 so it is after every sequence
+--   accepted-all                     what holds of all that were accepted before, and of the new one if it is, holds of all
 --   sequence-constant-free           no cycle that was accepted has a constant term
 use Prim.Native.Nat.{ℕ, zero, suc, _<_, _≤_}
 use mathlib.Core.List.{
@@ -89,7 +90,6 @@ pub sequence-running : {p n : ℕ} {chain : Chain} {s : List ℕ} {cs : List (Li
 sequence-running (opened o e) = opened-chain (rw e at o)
 sequence-running (called before {number = number} q) = called-chain (sequence-running before) number q
 
--- what holds of all that were accepted before, and of the new one where it is accepted
 pub accepted-all : {A : Type 0} (P : A → Type 0) (number : ℕ) (c : A) (cs : List A) → ((d : A) → List·Memᴰ d cs → P d) → (number ≡ 0 → P c)
     → (d : A) → List·Memᴰ d (acceptedAfter number c cs) → P d
 unfolding acceptedAfter
