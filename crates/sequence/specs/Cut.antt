@@ -5,11 +5,11 @@
 --   joined          the running series of two chains, composed, is that of the cycles of both
 --   cut             the theorem, for the cycles accepted
 --   cut-calls       and for the calls: a fresh chain that is handed the last calls that the long one accepted accepts them all
---   Halves          two chains of this p and n that accepted these calls, with s the composition of their running series
+--   Halves          two chains of this p and n that were handed these calls and accepted them all, s the composition of their running series
 --   cut-exists      there are such chains, wherever the calls that a chain accepted are cut
 --   Joined ..       the claim about a compose of two running series, for all cycles that led to them; compose-joined, it holds of every such call
 --   cut-composed    an accepted compose of the two halves leaves the running series of the whole in its output
-use Prim.Native.Nat.{ℕ, _≤_}
+use Prim.Native.Nat.{ℕ}
 use mathlib.Core.List.{List, Memᴰ·append-left, Memᴰ·append-right, _++_, map-append}
 use mathlib.Core.Path.{_≡_, refl, sym, ap, _∙_}
 use lib.ListN.{length, length-append}
@@ -18,7 +18,6 @@ use Rattle.algebra.specs.Prime.{prime-positive}
 use Rattle.definition.specs.Answer.{kept}
 use Rattle.definition.specs.Calls.{Compose}
 use Rattle.definition.specs.Chain.{Chain}
-use Rattle.definition.specs.Refusal.{mostCycles}
 use Rattle.definition.specs.Running.{running}
 use Rattle.definition.specs.Substitution.{composed}
 use Rattle.sequence.specs.Handed.{Handed, Run, accepted, accepted-done, accepted-lists, accepts-again, lists, made, run, runs}
@@ -54,7 +53,8 @@ cut-calls {cs = cs} {cs₁ = cs₁} {cs₂ = cs₂} long first rest parts = (all
 
 pub data Halves (p n : ℕ) (s : List ℕ) (gs hs : List Handed) : Type 0 where
   halves : {chain₁ chain₂ : Chain} {s₁ s₂ : List ℕ} {cs₁ cs₂ : List (List ℕ)} (first : Sequence p n chain₁ s₁ cs₁)
-      (rest : Sequence p n chain₂ s₂ cs₂) → accepted first ≡ gs → accepted rest ≡ hs → s ≡ composed p n s₁ s₂ → Halves p n s gs hs
+      (rest : Sequence p n chain₂ s₂ cs₂) → made first ≡ gs → accepted first ≡ gs → made rest ≡ hs → accepted rest ≡ hs
+      → s ≡ composed p n s₁ s₂ → Halves p n s gs hs
 
 pub cut-exists : {p n : ℕ} {chain : Chain} {s : List ℕ} {cs : List (List ℕ)} (long : Sequence p n chain s cs) (gs hs : List Handed)
     → accepted long ≡ gs ++ hs → Halves p n s gs hs
@@ -62,11 +62,11 @@ cut-exists {p} {n} {s = s} long gs hs parts = go (runs long gs) (runs long hs)
   where
     go : Run p n gs → Run p n hs → Halves p n s gs hs
     go (run first is-first) (run rest is-rest) =
-        let most : length (made first) ≤ mostCycles =
-        omega (arith, sequence-running long .most, accepted-done long, ap length parts, ap length is-first, length-append gs hs) in
-        let all = accepts-again long first (λ h m. rw (← parts) at (Memᴰ·append-left hs (rw is-first at m))) most ∙ is-first in
-        let found = cut-calls long first rest (parts ∙ rw (all, is-rest) refl) in
-        halves first rest all (found .0 ∙ is-rest) (found .1)
+        let all =
+        accepts-again long first (λ h m. rw (← parts) at (Memᴰ·append-left hs (rw is-first at m)))
+        (omega (arith, sequence-running long .most, accepted-done long, ap length parts, ap length is-first, length-append gs hs)) in
+        let found = cut-calls long first rest (parts ∙ rw (all, is-first, is-rest) refl) in
+        halves first rest is-first (all ∙ is-first) is-rest (found .0 ∙ is-rest) (found .1)
 
 unfoldable pub Joined : (p n : ℕ) (s₁ s₂ : List ℕ) (number : ℕ) (out′ : List ℕ) → Type 0
 Joined p n s₁ s₂ number out′ =

@@ -1,11 +1,11 @@
 -- Sequences of calls of a chain (demand 2): from an opened chain, each call given the record and the running series that the one before
 -- left. p is the modulus and n the order that the chain was opened with; a name with a prime (′) is a value after a call. Assumes nothing.
 --
---   acceptedAfter number c cs        the cycles, or calls, accepted after a c that returned this number, first one first
+--   acceptedAfter number c cs        the cycles accepted, cs before, after one with c that returned this number; calls likewise
 --   Sequence p n chain s cs          calls that left this record and the running series s, and accepted the cycles cs
 --   ChainOf p n chain s cs           this record and this running series are those of the cycles cs
---   sequence-field                   p and n are a modulus and an order
 --   sequence-running                 so it is after every sequence
+--   sequence-field                   p is a modulus and n an order that a call takes
 --   accepted-all                     what holds of all that were accepted before, and of the new one if it is, holds of all
 --   sequence-constant-free           no cycle that was accepted has a constant term
 use Prim.Native.Nat.{ℕ, zero, suc, _<_, _≤_}
