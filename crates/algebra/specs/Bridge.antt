@@ -42,7 +42,7 @@ use Rattle.algebra.specs.Homomorphism.{
   constants,
   map-power,
 }
-use Rattle.algebra.specs.Lists.{tabulate_cong, coefficient-tabulate, length-tabulate, table_of, sum-naturals, sum_cong}
+use Rattle.algebra.specs.Lists.{tabulate_cong, coefficient-tabulate, length-tabulate, table_of, sum-naturals}
 use Rattle.algebra.specs.Power.{power-0, power-suc}
 use Rattle.algebra.specs.Power as Power
 use Rattle.algebra.specs.Residue.{Residue, residue-value, residue-own, residue-+, residues, reduction}

@@ -13,7 +13,7 @@
 --   composed-equal     when two compositions with one inner list are equal (demand 3, for lists)
 use Prim.Native.Nat.{ℕ, zero, suc, ◌*◌, ◌%◌, ◌<◌, ◌≤◌}
 use Rattle.std.specs.Prelude.{List, [], ◌∷◌, ◌++◌, ◌↔◌, ◌≢◌, ◌≡◌, refl, length}
-use Rattle.std.proofs.Math.Logic.{Iff·symm, Iff·trans}
+use Rattle.std.proofs.Math.Logic.Iff
 use Rattle.std.proofs.Math.Path.{sym, ap}
 use Rattle.std.proofs.Common.{◌∙◌, mod-eq_of_lt, mul-one, mul-zero, zero-add, arith}
 use Rattle.std.proofs.Math.Nat.{zero-mod}
@@ -199,4 +199,4 @@ module _ {p : ℕ} (P : Prime p) (n : ℕ) (g : List ℕ) (below : (k : ℕ) →
       let t =
       taylor_agreement (residues positive) (residues_negation positive) (residues_domain positive P) (reduction positive)
       (coefficient g 0) rest (valuation-positive n g) rest-low rest-first f h in
-      Iff·trans (composed-residues f h) (Iff·trans (rw split t) (Iff·symm (leading-residues f h)))
+      Iff.trans (composed-residues f h) (Iff.trans (rw split t) (Iff.symm (leading-residues f h)))

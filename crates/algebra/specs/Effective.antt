@@ -41,7 +41,7 @@ module _ (l : List ℕ) where
     where
       at : (i : ℕ) → effective_below l k ≤ i → (i ≡ k) ⊎ (i < k) → coefficient l i ≡ 0
       at i above (inl same) = rw same e
-      at i above (inr below) = before.zero-on i above below
+      at i above (inr below) = before.zero_on i above below
   ends_next k before (suc c) e =
       rw (effective_found k (λ z. omega arith))
       (record {

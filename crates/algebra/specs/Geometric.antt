@@ -33,7 +33,7 @@ module _ {A : Type 0} (R : Semiring A) (N : Negation R) where
   quotient-denominator P g (suc k) =
       rw (
         quotient-suc R N P (denominator g) (suc k),
-        quotient-denominator _ g k,
+        quotient-denominator (λ i. P (suc i) ⊕ neg (P 0 ⊗ denominator g (suc i))) g k,
         quotient-suc R N P (denominator g) k,
       )
       (simp (ring, signed))

@@ -15,7 +15,7 @@
 --   reduced-denominator    after reduction, the operations of the definitions are those of the algebra
 --   reduced-column         the terms without x
 --   window_cut_product2_listed quotient-listed   each list of the definitions, read off a series
-use Prim.Native.Nat.{ℕ, zero, suc, ◌+◌, ◌-◌, ◌*◌, ◌%◌, ◌<◌}
+use Prim.Native.Nat.{ℕ, zero, suc, ◌+◌, ◌-◌, ◌%◌, ◌<◌}
 use Rattle.std.specs.Prelude.{Bool, List, ◌≡◌, eqb}
 use Rattle.std.proofs.Math.Bool.{true, false, cond}
 use Rattle.std.proofs.Math.Path.{refl, sym, ap, fun_ext}

@@ -50,7 +50,7 @@ module _ {A : Type 0} (R : Semiring A) (N : Negation R) where
   quotient-next P Q (suc k) =
       rw (
         quotient-suc P Q k,
-        quotient-next _ Q k,
+        quotient-next (λ i. P (suc i) ⊕ neg (P 0 ⊗ Q (suc i))) Q k,
         sum_first R k (λ i. neg (Q (suc k - i)) ⊗ quotient P Q i),
         sub-zero,
         quotient-0,
@@ -102,7 +102,7 @@ module _ {A B : Type 0} {R : Semiring A} {S : Semiring B} (N : Negation R) (M : 
       → φ.map (quotient R N P Q k) ≡ quotient S M (coefficients φ P) (coefficients φ Q) k
   quotient-map-at P Q zero = rw (quotient-0 R N, quotient-0 S M, coefficients-at φ)
   quotient-map-at P Q (suc k) =
-      rw (quotient-suc R N, quotient-suc S M, quotient-map-at _ Q k)
+      rw (quotient-suc R N, quotient-suc S M, quotient-map-at (λ i. R.◌⊕◌ (P (suc i)) (N.neg (R.◌⊗◌ (P 0) (Q (suc i))))) Q k)
       (ap (λ s. quotient S M s (coefficients φ Q) k)
       (fun_ext λ i. simp (coefficients-at φ, φ.map-⊕, φ.map-⊗, map-neg φ N M)))
 

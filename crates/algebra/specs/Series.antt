@@ -229,6 +229,7 @@ module _ {A : Type 0} (R : Semiring A) where
 
   pub power-⊠-below : (j : ℕ) (a : Series A) (k : ℕ) → k < j
       → (power series indeterminate j ⊠ a) k ≡ 𝟘
+  power-⊠-below zero a k l = absurd (omega arith)
   power-⊠-below (suc j) a zero l = rw (power-suc, ⊗_assoc, indeterminate-⊠, shift-0)
   power-⊠-below (suc j) a (suc k) l =
       rw (power-suc, ⊗_assoc, indeterminate-⊠, shift_suc) (power-⊠-below j a k (omega arith))
