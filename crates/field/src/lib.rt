@@ -1,17 +1,18 @@
 // Prime fields: the modulus record with its refusing constructor, and arithmetic modulo p.
+#![tactic(auto)]
 ghost use Rattle.std.specs.Prelude.{◌≡◌, ◌+◌, ◌-◌, ◌*◌, ◌^◌, ◌%◌, ◌<◌};
 ghost use Rattle.definition.specs.Prime.{is_prime};
 ghost use Rattle.definition.specs.KinoshitaLi.{negative};
 ghost use Rattle.field.specs.Opening.{Opening};
 
 // The field of the residues modulo `modulus`.
-#[derive(Drop)]
+#[derive(Clone, Copy)]
 pub struct Field {
     pub modulus: u32,
 }
 
 // A field, or none where the modulus is refused.
-#[derive(Drop)]
+#[derive(Clone, Copy)]
 pub enum Opened {
     Field(Field),
     Refused,

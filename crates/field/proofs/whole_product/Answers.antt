@@ -3,18 +3,11 @@ use borrow.Author.Rules.{rules}
 use native.Mathlib.Omega.{arith}
 use Prim.Native.Nat.{◌*◌, ◌-◌, ◌^◌, ◌≤◌}
 use native.Mathlib.Nat.{mul-le-mul}
-use Rattle.field.proofs.whole_product.Statement.{statement}
-use Rattle.field.proofs.whole_product.Tie as tie
+use Rattle.field.proofs.whole_product.Goals as goal
 
-mul-result : tie.Need-overflow-mul-result
-mul-result c =
+pub overflow_mul-result : goal.overflow_mul-result
+overflow_mul-result c =
     let small : c.args.a * c.args.b ≤ (2 ^ 32 - 1) * (2 ^ 32 - 1) =
     mul-le-mul {n₂ = 2 ^ 32 - 1} {m₂ = 2 ^ 32 - 1} (omega arith) (omega arith)
     in
     omega arith
-
-returns : tie.Need-returns
-returns c = search rules
-
-pub whole-product-spec : {M : Type 1} → statement M
-whole-product-spec = tie.close (tie.spec mul-result returns)
