@@ -9,7 +9,7 @@ ghost use Rattle.blocks.specs.Blocks.{Changed, Doubled, Factors, Pairs, Rooms, S
 use summed_product::Part;
 
 // So many blocks, of so many places each.
-#[derive(Drop)]
+#[derive(Clone, Copy)]
 pub struct Blocks {
     pub count: usize,
     pub length: usize,

@@ -11,7 +11,7 @@ ghost use Rattle.grids.specs.Parts.{Few, ProductPut, Room, Source, SquarePut, gr
 use blocks::Blocks;
 
 // Blocks in a buffer: block l begins at at + l outer, and its places lie `inner` apart.
-#[derive(Drop)]
+#[derive(Clone, Copy)]
 pub struct Grid {
     pub at: usize,
     pub outer: usize,

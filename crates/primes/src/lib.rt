@@ -12,7 +12,7 @@ const TABLE: [u32; 16] = [
 
 // The number that a call returns, and the prime: 0 and an entry, or a refusal and 0.
 #[repr(C)]
-#[derive(Drop)]
+#[derive(Clone, Copy)]
 pub struct Answer {
     pub number: u32,
     pub prime: u32,

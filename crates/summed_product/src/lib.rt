@@ -4,7 +4,7 @@ ghost use Rattle.rows.specs.Rows.{Factors, Passed};
 ghost use Rattle.summed_product.specs.Terms.{Added, Pair, PassAt, product_of, rows_of};
 
 // The `count` places of a list from `at` on.
-#[derive(Drop)]
+#[derive(Clone, Copy)]
 pub struct Part {
     pub at: usize,
     pub count: usize,
