@@ -1,6 +1,7 @@
 // Parts of polynomials in x and y, read from a lent buffer into lists of blocks, and products of two such parts. A part is a grid: places of some rows,
 // at equal distances. A block is a row of it, or, where there are more rows than places in them, a column: the inner loops run along the longer
 // direction.
+#![tactic(auto)]
 ghost use Rattle.std.specs.Prelude.{◌≡◌, ℕ, ◌+◌, ◌*◌, ◌<◌, ◌≤◌, length};
 ghost use Rattle.std.proofs.lemmas.List.Edits.{sets};
 ghost use Rattle.definition.specs.KinoshitaLi.{plane};

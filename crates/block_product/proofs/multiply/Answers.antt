@@ -19,13 +19,13 @@ pub loop-k-init : goal.loop-k-init
 loop-k-init c = (omega arith, refl, refl, refl, results-first _ _ _)
 
 pub overflow_mul-from : goal.overflow_mul-from
-overflow_mul-from c = record { fits = omega (arith, fits-z (goal.at.overflow_mul-from c).At-loop-k c.loop-k-test.true, c.fits) }
+overflow_mul-from c = record { fits = omega (arith, fits-z (goal.at.overflow_mul-from c).At-loop-k c.loop-k-test.true) }
 
 pub overflow_add-to : goal.overflow_add-to
-overflow_add-to c = record { fits = omega (arith, fits-z (goal.at.overflow_add-to c).At-loop-k c.loop-k-test.true, c.fits) }
+overflow_add-to c = record { fits = omega (arith, fits-z (goal.at.overflow_add-to c).At-loop-k c.loop-k-test.true) }
 
 pub offset_bounds-z-from : goal.offset_bounds-z-from
-offset_bounds-z-from c = record { fits = omega (arith, fits-z (goal.at.offset_bounds-z-from c).At-loop-k c.loop-k-test.true, c.fits) }
+offset_bounds-z-from c = record { fits = omega (arith, fits-z (goal.at.offset_bounds-z-from c).At-loop-k c.loop-k-test.true) }
 
 pub slice_bounds-result-end-in-loop-k-2 : goal.slice_bounds-result-end-in-loop-k-2
 slice_bounds-result-end-in-loop-k-2 c = omega (arith, fits-z (goal.at.slice_bounds-result-end-in-loop-k-2 c).At-loop-k c.loop-k-test.true, c.loop-k.invariant.1)
