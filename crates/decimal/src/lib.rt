@@ -1,4 +1,6 @@
 // Numbers in decimal and byte strings, written into a lent text buffer.
+#![tactic(auto)]
+
 ghost use Rattle.std.specs.Prelude.{length, [], ◌∷◌, ◌++◌, ◌≡◌, ◌+◌, ◌<◌, ◌≤◌};
 ghost use Rattle.definition.specs.Text.{decimal};
 ghost use Rattle.decimal.specs.Writing.{Written};

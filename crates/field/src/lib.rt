@@ -1,5 +1,6 @@
 // Prime fields: the modulus record with its refusing constructor, and arithmetic modulo p.
 #![tactic(auto)]
+
 ghost use Rattle.std.specs.Prelude.{◌≡◌, ◌+◌, ◌-◌, ◌*◌, ◌^◌, ◌%◌, ◌<◌};
 ghost use Rattle.definition.specs.Prime.{is_prime};
 ghost use Rattle.definition.specs.KinoshitaLi.{negative};

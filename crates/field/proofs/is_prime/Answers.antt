@@ -1,20 +1,12 @@
 -- `field::is_prime` meets its contract: before each turn the numbers below d are tried, and d is number i of the wheel.
 -- Assumes nothing.
-use borrow.Author.Rules.{rules}
 use native.Mathlib.Omega.{arith}
-use Prim.Native.Nat.{◌*◌, ◌-◌, ◌≤◌}
 use mathlib.Core.Path.{refl, sym}
 use Rattle.algebra.specs.Prime.{is_prime_false}
 use Rattle.definition.specs.Prime.{indivisible, is_prime}
 use Rattle.field.specs.Trial.{divided_prime, tried_divided, tried-prime}
-use Rattle.field.specs.Wheel.{Wheel, steps, wheel_next, wheel_room, wheel_seven}
+use Rattle.field.specs.Wheel.{steps, wheel_next, wheel_room, wheel_seven}
 use Rattle.field.proofs.is_prime.Goals as goal
-
--- inside the loop: the square of d is at most p
-
-within : (c : goal.In-loop-p →
-    c.loop-p.d * c.loop-p.d ≤ c.args.p
-within c = omega (arith, c.whole_product.ensures, c.loop-p-test.true)
 
 pub returns-then-p-lt2 : goal.returns-then-p-lt2
 returns-then-p-lt2 c = sym (is_prime_false c.args.p (λ prime. omega (arith, prime.above-one)))
@@ -35,15 +27,15 @@ pub loop-p-init : goal.loop-p-init
 loop-p-init c = wheel_seven _ c.if-p-lt2.false c.if-p-eq0.false c.if-p-eq0-2.false c.if-p-eq0-3.false
 
 pub returns-then-p-d-eq0 : goal.returns-then-p-d-eq0
-returns-then-p-d-eq0 c = sym (tried_divided c.loop-p.invariant.tried (within (goal.at.returns-then-p-d-eq0 c).In-loop-p) c.if-p-d-eq0.true)
+returns-then-p-d-eq0 c = sym (tried_divided c.loop-p.invariant.tried (omega (arith, c.whole_product.ensures, c.loop-p-test.true)) c.if-p-d-eq0.true)
 
 pub overflow_add-d : goal.overflow_add-d
 unfolding steps
-overflow_add-d c = omega (arith, wheel_room c.loop-p.invariant (within (goal.at.overflow_add-d c).In-loop-p))
+overflow_add-d c = omega (arith, wheel_room c.loop-p.invariant (omega (arith, c.whole_product.ensures, c.loop-p-test.true)))
 
 pub loop-p-smaller : goal.loop-p-smaller
 unfolding steps
-loop-p-smaller c = omega (arith, wheel_room c.loop-p.invariant (within (goal.at.loop-p-smaller c).In-loop-p))
+loop-p-smaller c = omega (arith, wheel_room c.loop-p.invariant (omega (arith, c.whole_product.ensures, c.loop-p-test.true)))
 
 pub loop-p-preserved : goal.loop-p-preserved
 unfolding steps

@@ -1,5 +1,4 @@
 -- `Field::difference` meets its contract. Assumes nothing.
-use borrow.Author.Rules.{rules}
 use mathlib.Core.Path.{◌∙◌}
 use Rattle.field.proofs.Field.difference.Goals as goal
 

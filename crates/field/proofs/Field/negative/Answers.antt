@@ -1,5 +1,4 @@
 -- `Field::negative` meets its contract. Assumes nothing.
-use borrow.Author.Rules.{rules}
 use native.Mathlib.Omega.{arith}
 use mathlib.Core.Path.{refl}
 use Prim.Native.Nat.{◌%◌, ◌<◌}

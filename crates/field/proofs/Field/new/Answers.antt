@@ -1,5 +1,4 @@
 -- `Field::new` meets its contract: the two tests are those of `bad_modulus`. Assumes nothing.
-use borrow.Author.Rules.{rules}
 use borrow.Author.Tests.{le-ltb, lt-ltb}
 use native.Mathlib.Omega.{arith}
 use Prim.Native.Nat.{◌<◌, ◌≤◌}

@@ -1,12 +1,6 @@
 -- `Field::power` meets its contract: r b^k stays a^e modulo p. Assumes nothing.
-use borrow.Author.Rules.{rules}
-use native.Mathlib.Omega.{arith}
 use Prim.Native.Nat.{◌*◌, ◌^◌, ◌%◌, ◌<◌}
-use mathlib.Core.Path.{◌≡◌, sym, ◌∙◌}
-use native.Mathlib.Nat.{mod-lt, mod-eq_of_lt, mul-one, one-mul, pow-zero}
-use mathlib.Core.Logic.{⊎_elim}
-use Rattle.algebra.specs.Remainder.{mod-mul-mod}
-use Rattle.field.specs.Square.{power-even, power-odd}
+use mathlib.Core.Path.{◌≡◌}
 use Rattle.field.proofs.Field.power.Given as goal
 
 abbrev pub invariant-loop-k : goal.invariant-loop-k

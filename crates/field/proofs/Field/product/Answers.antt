@@ -1,5 +1,4 @@
 -- `Field::product` meets its contract. Assumes nothing.
-use borrow.Author.Rules.{rules}
 use Rattle.field.proofs.Field.product.Goals as goal
 
 pub returns : goal.returns

@@ -1,5 +1,4 @@
 -- `Field::reduced` meets its contract: a remainder is below the modulus, so it fits 32 bits. Assumes nothing.
-use borrow.Author.Rules.{rules}
 use native.Mathlib.Omega.{arith}
 use native.Mathlib.Nat.{mod-lt}
 use Rattle.field.proofs.Field.reduced.Goals as goal
