@@ -38,7 +38,7 @@ load_block-requires c =
     (
       c.requires.0,
       λ k h. c.requires.1.inside _ k c.loop-l-test.true h,
-      omega (arith, room at c.loop-l-test.true, c.loop-l.invariant.1),
+      omega (arith, room (goal.at.load_block-requires c).At-loop-l c.loop-l-test.true, c.loop-l.invariant.1),
     )
 
 pub loop-l-smaller : goal.loop-l-smaller
