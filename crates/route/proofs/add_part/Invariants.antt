@@ -1,0 +1,16 @@
+-- `route::add_part` meets its contract: after k turns the first k places are written. Assumes nothing.
+use borrow.Author.Rules.{rules}
+use native.Mathlib.Omega.{arith}
+use Prim.Native.Nat.{◌+◌, ◌-◌, ◌%◌}
+use mathlib.Core.Path.{ap₂, ◌∙◌}
+use Rattle.buffer.specs.Filling.{Filling, filling_after, filling_first, filling_last, filling_next}
+use Rattle.buffer.specs.Segments.{segment}
+use Rattle.definition.specs.Lists.{coefficient}
+use Rattle.definition.specs.Substitution.{cut_sum, cut_sum_at}
+use Rattle.route.proofs.add_part.Given as goal
+
+abbrev pub invariant-loop-k : goal.invariant-loop-k
+invariant-loop-k l = Filling (cut_sum_at l.p (segment l.initial.w l.t l.n) (segment l.initial.w l.s l.n)) l.t l.n l.initial.w l.w l.k
+
+abbrev pub decreases-loop-k : goal.decreases-loop-k
+decreases-loop-k l = l.n - l.k
