@@ -1,4 +1,6 @@
 // The sixteen largest primes below 2147483648.
+#![tactic(auto)]
+
 ghost use Rattle.std.specs.Prelude.{◌≡◌};
 ghost use Rattle.definition.specs.Calls.{Table};
 ghost use Rattle.definition.specs.PrimeTable.{prime_table};
@@ -12,7 +14,7 @@ const TABLE: [u32; 16] = [
 
 // The number that a call returns, and the prime: 0 and an entry, or a refusal and 0.
 #[repr(C)]
-#[derive(Drop)]
+#[derive(Clone, Copy)]
 pub struct Answer {
     pub number: u32,
     pub prime: u32,
