@@ -1,6 +1,7 @@
 // Products of polynomials in two variables, on lists of blocks: a block holds the coefficients of one power of the outer variable, and the inner
 // loops run along it. A list of blocks begins with eight zeros, and eight zeros stand behind each block. A result is summed up over all pairs of
 // blocks.
+#![tactic(auto)]
 ghost use Rattle.std.specs.Prelude.{◌≡◌, ◌+◌, ◌-◌, ◌*◌, ◌%◌, ◌<◌, ◌≤◌, ◌^◌, length};
 ghost use Rattle.summed_product.specs.Sums.{Sums};
 ghost use Rattle.summed_product.specs.Terms.{Added};
@@ -9,7 +10,7 @@ ghost use Rattle.blocks.specs.Blocks.{Changed, Doubled, Factors, Pairs, Rooms, S
 use summed_product::Part;
 
 // So many blocks, of so many places each.
-#[derive(Drop)]
+#[derive(Clone, Copy)]
 pub struct Blocks {
     pub count: usize,
     pub length: usize,

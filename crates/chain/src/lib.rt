@@ -10,7 +10,7 @@ use product::Measured;
 
 // A chain record.
 #[repr(C)]
-#[derive(Drop)]
+#[derive(Clone, Copy)]
 pub struct Chain {
     pub modulus: u32,
     pub order: usize,
@@ -19,7 +19,7 @@ pub struct Chain {
 
 // What an opening answers, with the record that it leaves.
 #[repr(C)]
-#[derive(Drop)]
+#[derive(Clone, Copy)]
 pub struct Opened {
     pub number: u32,
     pub weight: u64,
@@ -28,7 +28,7 @@ pub struct Opened {
 
 // What a cycle answers, with the record that it leaves; the length is the effective length (N5) of the running series.
 #[repr(C)]
-#[derive(Drop)]
+#[derive(Clone, Copy)]
 pub struct Cycled {
     pub number: u32,
     pub weight: u64,

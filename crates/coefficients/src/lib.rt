@@ -1,5 +1,7 @@
 // The product of two parts of a list modulo p, added to a third part, coefficient by coefficient: the quickest way for few places, and a way for any
 // number of them.
+#![tactic(auto)]
+
 ghost use Rattle.std.specs.Prelude.{◌≡◌, ◌+◌, ◌≤◌, drop};
 ghost use Rattle.std.proofs.lemmas.List.Edits.{sets};
 ghost use Rattle.coefficients.specs.Operands.{Operands, added_product};

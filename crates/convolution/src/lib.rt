@@ -1,4 +1,6 @@
 // Coefficients of a product modulo p, each an exact sum of products of 32-bit numbers and one remainder.
+#![tactic(auto)]
+
 ghost use Rattle.std.specs.Prelude.{◌≡◌, ◌+◌, ◌*◌, ◌%◌, ◌<◌, ◌^◌, length};
 ghost use Rattle.definition.specs.Lists.{coefficient};
 ghost use Rattle.definition.specs.Substitution.{product};

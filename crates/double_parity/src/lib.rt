@@ -11,7 +11,7 @@ ghost use Rattle.double_parity.specs.Weave.{Thirds, blocks, column, woven_plane}
 use grids::Grid;
 
 // Some rows of a product, from row `low` on, and so many places of each, in blocks: its rows or, turned, its columns.
-#[derive(Drop)]
+#[derive(Clone, Copy)]
 pub struct Results {
     pub turned: bool,
     pub low: usize,

@@ -8,21 +8,21 @@ use chain::{Chain, Cycled};
 use refusal::Answer;
 
 // The answers of two calls of compose.
-#[derive(Drop)]
+#[derive(Clone, Copy)]
 pub struct ComposedTwice {
     pub first: Answer,
     pub second: Answer,
 }
 
 // The answers of a call of compose and of a cycle.
-#[derive(Drop)]
+#[derive(Clone, Copy)]
 pub struct ComposedAndCycled {
     pub first: Answer,
     pub second: Cycled,
 }
 
 // The answers of two cycles.
-#[derive(Drop)]
+#[derive(Clone, Copy)]
 pub struct CycledTwice {
     pub first: Cycled,
     pub second: Cycled,

@@ -1,6 +1,7 @@
 // Parts of polynomials in x and y, read from a lent buffer into lists of blocks, and products of two such parts. A part is a grid: places of some rows,
 // at equal distances. A block is a row of it, or, where there are more rows than places in them, a column: the inner loops run along the longer
 // direction.
+#![tactic(auto)]
 ghost use Rattle.std.specs.Prelude.{◌≡◌, ℕ, ◌+◌, ◌*◌, ◌<◌, ◌≤◌, length};
 ghost use Rattle.std.proofs.lemmas.List.Edits.{sets};
 ghost use Rattle.definition.specs.KinoshitaLi.{plane};
@@ -11,7 +12,7 @@ ghost use Rattle.grids.specs.Parts.{Few, ProductPut, Room, Source, SquarePut, gr
 use blocks::Blocks;
 
 // Blocks in a buffer: block l begins at at + l outer, and its places lie `inner` apart.
-#[derive(Drop)]
+#[derive(Clone, Copy)]
 pub struct Grid {
     pub at: usize,
     pub outer: usize,

@@ -63,7 +63,7 @@ fn compose_file(file: &[u8], output: &mut [u32]) -> Answer
 }
 
 // What a file is answered: the number, and where it is 0 the order and the weight.
-#[derive(Drop)]
+#[derive(Clone, Copy)]
 struct Solved {
     number: u32,
     order: usize,

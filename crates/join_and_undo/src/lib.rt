@@ -9,7 +9,7 @@ use chain::{Chain, Cycled};
 use refusal::Answer;
 
 // The answers of a reverse, of the cycle and of the cycle that undoes it.
-#[derive(Drop)]
+#[derive(Clone, Copy)]
 pub struct Undone {
     pub reversed: Answer,
     pub cycled: Cycled,

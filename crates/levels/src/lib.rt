@@ -18,7 +18,7 @@ fn degree_bound(m: usize, q: usize) -> usize
 
 // The parts of a level. One after the other stand Q, from place 0 on, the result, Q(-x, y) in as many rows as Q, the rows of a product, and
 // the rest, lent to the next level.
-#[derive(Drop)]
+#[derive(Clone, Copy)]
 pub struct Layout {
     // ⌈r/2⌉, and q and d one level down
     pub half: usize,

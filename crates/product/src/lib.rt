@@ -9,14 +9,14 @@ ghost use Rattle.product.specs.Double.{MultipliedOpposite, MultipliedRows};
 ghost use Rattle.product.specs.Single.{Multiplied, MultipliedAdd, Operands};
 
 // A polynomial in x and y in a buffer: `count` rows, one after the other from place `at` on, row j for y^j. Later rows are zero.
-#[derive(Drop)]
+#[derive(Clone, Copy)]
 pub struct Rows {
     pub at: usize,
     pub count: usize,
 }
 
 // The weight of a composition (01's term), or a part of it: the sum, over some products, of the places that each is cut to.
-#[derive(Drop)]
+#[derive(Clone, Copy)]
 pub struct Weight {
     places: u64,
 }
@@ -48,7 +48,7 @@ impl Weight {
 }
 
 // What a product gives back, and what a route does: its weight, and the effective length (N5) of what it wrote.
-#[derive(Drop)]
+#[derive(Clone, Copy)]
 pub struct Measured {
     pub weight: Weight,
     pub length: usize,

@@ -23,7 +23,7 @@ const MOST_CYCLES: u32 = 64;
 
 // What compose and reverse answer; the length is the effective length (N5) of the output.
 #[repr(C)]
-#[derive(Drop)]
+#[derive(Clone, Copy)]
 pub struct Answer {
     pub number: u32,
     pub weight: u64,

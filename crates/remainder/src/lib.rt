@@ -1,5 +1,6 @@
 // The remainders modulo p of sums that are kept in two parts: a sum modulo 2^64, and beside it a count of 2^32 that falls short of it by less than
 // 2^46 (`rows` makes such sums).
+#![tactic(auto)]
 ghost use Rattle.std.specs.Prelude.{◌≡◌, ◌+◌, ◌-◌, ◌*◌, ◌/◌, ◌%◌, ◌^◌, ◌<◌, ◌≤◌, length};
 ghost use Rattle.std.proofs.lemmas.List.Edits.{sets};
 ghost use Rattle.remainder.specs.Inverse.{Between};
@@ -14,7 +15,7 @@ fn folded(m: u64, first: u64, second: u64, high: u64, low: u64) -> u32
 }
 
 // What 2^32 h leaves of a number that is s modulo 2^64.
-fn low_part_lem(s: u64, h: u64) -> u64
+fn low_part(s: u64, h: u64) -> u64
     ensures { result ≡ low_part s h }
 {
     std::num::wrapping_sub_u64(s, h % 4294967296 * 4294967296)
@@ -31,7 +32,7 @@ fn by_division(p: u32, n: usize, sums: &[u64], high: &[u64], z: &mut [u32])
     let mut k = 0;
     while k < n {
         let h = high[k];
-        z[k] = folded(m, first, second, h, low_part_lem(sums[k], h));
+        z[k] = folded(m, first, second, h, low_part(sums[k], h));
         k += 1;
     }
 }

@@ -7,7 +7,7 @@ ghost use Rattle.decimal.specs.Writing.{Written};
 
 // What rendering answers: the number, and the count of bytes written (0 where it is refused).
 #[repr(C)]
-#[derive(Drop)]
+#[derive(Clone, Copy)]
 pub struct Answer {
     pub number: u32,
     pub count: usize,

@@ -1,10 +1,12 @@
 // Rows of the multiplication by hand: row j is place j of one factor times the other factor. Some rows are added in one pass over the places.
 // The sum of a place is exact: it is kept modulo 2^64, and beside it the sum of the high halves of what was added.
+#![tactic(auto)]
+
 ghost use Rattle.std.specs.Prelude.{◌≡◌, ◌+◌, ◌%◌, ◌^◌, ◌<◌, length, slice_index, slice_set};
 ghost use Rattle.rows.specs.Rows.{Factors, FourBelow, IsFour, IsTotal, Passed, PlacesBelow, four_products};
 
 // Four neighbouring places of a list.
-#[derive(Drop)]
+#[derive(Clone, Copy)]
 struct Four {
     a: u64,
     b: u64,
@@ -13,7 +15,7 @@ struct Four {
 }
 
 // A number in two parts: the number modulo 2^64, and a count of 2^32 in it that is a little too small.
-#[derive(Drop)]
+#[derive(Clone, Copy)]
 struct Total {
     wrapped: u64,
     high: u64,

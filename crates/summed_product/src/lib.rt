@@ -1,10 +1,11 @@
 // The product of parts of two lists, added to sums that are kept exact (`rows`), whatever the modulus.
+#![tactic(auto)]
 ghost use Rattle.std.specs.Prelude.{true, ◌≡◌, ℕ, ◌+◌, ◌≤◌, ◌<◌, get_or, length};
 ghost use Rattle.rows.specs.Rows.{Factors, Passed};
 ghost use Rattle.summed_product.specs.Terms.{Added, Pair, PassAt, product_of, rows_of};
 
 // The `count` places of a list from `at` on.
-#[derive(Drop)]
+#[derive(Clone, Copy)]
 pub struct Part {
     pub at: usize,
     pub count: usize,

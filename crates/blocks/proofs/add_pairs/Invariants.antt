@@ -1,0 +1,18 @@
+-- `blocks::add_pairs` meets its contract: the pairs below l are added. Assumes nothing.
+use borrow.Author.Rules.{rules}
+use native.Mathlib.Nat.{le_refl}
+use native.Mathlib.Omega.{arith}
+use Prim.Native.Nat.{◌+◌, ◌*◌, ◌-◌, ◌<◌, ◌≤◌}
+use lib.ListN.{length}
+use Rattle.summed_product.specs.Terms.{Added, added_more, added_none}
+use Rattle.blocks.specs.Blocks.{blocks_of, pair_of, pairs_count, pairs_done, pairs_next, pairs_none, pairs_sum}
+use mathlib.Core.Path.{◌≡◌, refl}
+use Rattle.blocks.proofs.add_pairs.Given as goal
+
+abbrev pub invariant-loop-l : goal.invariant-loop-l
+invariant-loop-l l =
+    (l.from ≤ l.l) × (l.l - l.from ≤ l.to - l.from) × (length l.sums ≡ length l.initial.sums) × (length l.high ≡ length l.initial.high)
+    × Added l.n ((l.l - l.from) * (l.a.length + 8)) l.initial.sums l.sums l.initial.high l.high (pairs_sum (blocks_of l.a l.left) (blocks_of l.b l.right) l.j l.from l.l l.low)
+
+abbrev pub decreases-loop-l : goal.decreases-loop-l
+decreases-loop-l l = l.to - l.l

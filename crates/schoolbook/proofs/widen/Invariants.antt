@@ -1,0 +1,15 @@
+-- `schoolbook::widen` meets its contract: after i turns the first i places are written. Assumes nothing.
+use borrow.Author.Rules.{rules}
+use native.Mathlib.Omega.{arith}
+use Prim.Native.Nat.{◌-◌}
+use mathlib.Core.Path.{◌∙◌}
+use Rattle.buffer.specs.Filling.{Filling, filling_first, filling_last, filling_next}
+use Rattle.definition.specs.Lists.{coefficient}
+use Rattle.schoolbook.specs.ByRows.{residue_at, residue_list}
+use Rattle.schoolbook.proofs.widen.Given as goal
+
+abbrev pub invariant-loop-i : goal.invariant-loop-i
+invariant-loop-i l = Filling (residue_at l.p l.x) l.at l.n l.initial.into l.into l.i
+
+abbrev pub decreases-loop-i : goal.decreases-loop-i
+decreases-loop-i l = l.n - l.i
