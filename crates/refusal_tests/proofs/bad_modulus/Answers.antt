@@ -1,6 +1,5 @@
 -- `refusal_tests::bad_modulus` meets its contract: a number of the table is a prime below the largest modulus, and of any other what the refusing
 -- constructor answers tells. Assumes nothing.
-use borrow.Author.Rules.{rules}
 use mathlib.Core.Path.{sym, ◌∙◌}
 use native.Mathlib.Omega.{arith}
 use Rattle.definition.specs.Prime.{largest_modulus}
@@ -17,7 +16,7 @@ returns-then-in_table c =
     (omega arith))
 
 pub returns-in-Field : goal.returns-in-Field
-returns-in-Field c = sym (taken_modulus _ _ (c.in-Field.ensures tt)).0
+returns-in-Field c = sym (taken_modulus _ _ (c.in-Field.ensures)).0
 
 pub returns-in-Refused : goal.returns-in-Refused
-returns-in-Refused c = sym (refused-modulus _ (c.in-Refused.ensures tt))
+returns-in-Refused c = sym (refused-modulus _ (c.in-Refused.ensures))

@@ -1,5 +1,4 @@
 -- `refusal_tests::field_number` meets its contract. Assumes nothing.
-use borrow.Author.Rules.{rules}
 use mathlib.Core.Path.{refl}
 use Rattle.definition.specs.Refusal.{test}
 use Rattle.refusal_tests.specs.Tests.{absent, number_after, followed, told}

@@ -1,5 +1,4 @@
 -- `refusal_tests::modulus_number` meets its contract. Assumes nothing.
-use borrow.Author.Rules.{rules}
 use mathlib.Core.Path.{sym, ◌∙◌}
 use Rattle.refusal_tests.specs.Tests.{after_earlier, after-fired, after-passed}
 use Rattle.refusal_tests.proofs.modulus_number.Goals as goal

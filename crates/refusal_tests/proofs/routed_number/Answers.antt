@@ -1,5 +1,4 @@
 -- `refusal_tests::routed_number` meets its contract: what its tests ensure, one after the other. Assumes nothing.
-use borrow.Author.Rules.{rules}
 use mathlib.Core.Path.{refl}
 use Rattle.definition.specs.Refusal.{test}
 use Rattle.refusal_tests.specs.Tests.{absent, followed, number_after, routed_told}
