@@ -7,7 +7,7 @@
 --   table-only      a list that keeps the rule is this one
 --   member-prime    a number of the table is prime
 -- Assumes nothing.
-use Rattle.std.specs.Prelude.{ℕ, suc, ◌-◌, ◌*◌, ◌<◌, ◌≤◌, get_or, true, List, [], ◌∷◌, ◌≡◌, refl}
+use Rattle.std.specs.Prelude.{ℕ, suc, ◌*◌, ◌<◌, ◌≤◌, get_or, true, List, [], ◌∷◌, ◌≡◌, refl}
 use Rattle.std.proofs.Common.{lit≤, arith}
 use Rattle.definition.specs.Prime.{Prime}
 use Rattle.definition.specs.PrimeTable.{TableRule, table_bound, prime_table}

@@ -1,4 +1,6 @@
 // The sixteen largest primes below 2147483648.
+#![tactic(auto)]
+
 ghost use Rattle.std.specs.Prelude.{◌≡◌};
 ghost use Rattle.definition.specs.Calls.{Table};
 ghost use Rattle.definition.specs.PrimeTable.{prime_table};

@@ -1,4 +1,6 @@
 // The number that each of the calls compose, reverse, open (of a chain), cycle and render returns, and the places of work of a cycle.
+#![tactic(auto)]
+
 ghost use Rattle.std.specs.Prelude.{◌≡◌, ◌≤◌};
 ghost use Rattle.definition.specs.Refusal.{
   compose_refusal,

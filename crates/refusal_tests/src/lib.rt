@@ -1,4 +1,6 @@
 // The tests that the calls make of what they are handed, and the number of the tests that many calls begin with.
+#![tactic(auto)]
+
 ghost use Rattle.std.specs.Prelude.{ltb, ◌||◌, [], ◌∷◌, ◌≡◌, ◌<◌};
 ghost use Rattle.definition.specs.Refusal.{bad_block, bad_modulus, bad_order, bad_route, exceeds, first, has_constant, irreversible, test, work_places};
 ghost use Rattle.refusal_tests.specs.Tests.{field_tests, number_after, routed_tests};

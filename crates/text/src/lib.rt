@@ -1,4 +1,6 @@
 // The text of an accepted answer and of a refusal: the count of its bytes, and writing it into a lent text buffer.
+#![tactic(auto)]
+
 ghost use Rattle.std.specs.Prelude.{length, ◌∷◌, ◌≡◌, ◌+◌, ◌<◌, ◌≤◌};
 ghost use Rattle.definition.specs.Refusal.{limit};
 ghost use Rattle.definition.specs.Text.{accepted, decimal, refused, space, spaced};
