@@ -21,8 +21,8 @@ use std::path::Path;
 use written::Law;
 
 /// What the laws unfold besides the definitions: counts of binary digits; where the theorems of `primes` are used, the table written out.
-const COUNTS: &[&str] = &["lib.Count.ones", "lib.Count.onesIn", "lib.Count.leadingZeros"];
-const WRITTEN_OUT: &str = "Rattle·primes.specs.Table.table";
+const COUNTS: &[&str] = &["lib.Count.ones", "lib.Count.ones_in", "lib.Count.count_leading_zeros"];
+const WRITTEN_OUT: &str = "Rattle.primes.specs.Table.table";
 
 fn computed(equations: Vec<String>) -> Vec<Law> {
     equations.into_iter().map(Law::computed).collect()

@@ -41,7 +41,7 @@ pub fn all(random: &mut Random) -> Vec<String> {
         equations.push(text(random));
     }
     equations.extend(
-        (0..120).map(|p| format!("is_prime {p} ≡ mathlib.Core.Bool.{}", primes::is_prime(p))),
+        (0..120).map(|p| format!("is_prime {p} ≡ {}", primes::is_prime(p))),
     );
     equations
 }

@@ -1,5 +1,5 @@
 //! Writes the crates of laws. The `use` lines name every definition. Each theorem lists all that it unfolds, which costs more time than most
-//! laws, so a theorem is a tuple of laws.
+//! laws, so a theorem is a tuple of laws. The theorems stand in proofs/.
 
 use std::fs;
 use std::io::{Error, ErrorKind, Result};
@@ -9,11 +9,8 @@ use std::path::Path;
 const GROUP: usize = 20;
 
 const HEAD: &str = "\
-use lib.ListN.{replicate}
-use mathlib.Core.Bool.{true, false}
-use mathlib.Core.List.{List, [], _∷_, _++_}
-use mathlib.Core.Path.{_≡_, refl}
-use Rattle·definition.specs.Calls.{Compose, Cycle, Job, Open, Render, Table}
+use Rattle.std.specs.Prelude.{true, false, [], ◌∷◌, ◌++◌, replicate, ◌≡◌, refl}
+use Rattle.definition.specs.Calls.{Compose, Cycle, Job, Open, Render, Table}
 ";
 
 /// What a law states, its proof, and the definitions that it does not unfold.
@@ -97,7 +94,7 @@ fn theorems(modules: &[(String, Vec<String>)], besides: &[&str], laws: &[Law]) -
     let mut text = String::from(HEAD);
     let mut names = besides.to_vec();
     for (module, inside) in modules {
-        text += &format!("use Rattle·definition.specs.{module}.{{{}}}\n", inside.join(", "));
+        text += &format!("use Rattle.definition.specs.{module}.{{{}}}\n", inside.join(", "));
         names.extend(inside.iter().map(String::as_str));
     }
     for (place, group) in groups(laws).into_iter().enumerate() {
@@ -110,11 +107,11 @@ fn theorems(modules: &[(String, Vec<String>)], besides: &[&str], laws: &[Law]) -
 pub fn write(folder: &Path, definitions: &str, besides: &[&str], laws: &[Law]) -> Result<()> {
     let text = theorems(&modules(definitions)?, besides, laws);
     fs::create_dir_all(folder.join("src"))?;
-    fs::create_dir_all(folder.join("specs"))?;
+    fs::create_dir_all(folder.join("proofs"))?;
     fs::write(
         folder.join("src/lib.rt"),
-        "// Equations between the definitions and the second implementation.\n",
+        "// Equations between the definitions and the second implementation.\n#![tactic(auto)]\n",
     )?;
-    fs::write(folder.join("specs/Lib.antt"), "pub mod Equations\n")?;
-    fs::write(folder.join("specs/Equations.antt"), text)
+    fs::write(folder.join("proofs/Lib.antt"), "pub mod Equations\n")?;
+    fs::write(folder.join("proofs/Equations.antt"), text)
 }
