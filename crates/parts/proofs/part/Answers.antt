@@ -20,11 +20,11 @@ place c i below =
     part-place c.requires.0 c.args.m c.args.j i (rw c.rounded_up-count.ensures at below)
 
 inside : (c : In-loop-i) → (c.args.j + c.args.p * c.loop-i.i < c.args.m) × (c.loop-i.i < c.args.m)
-inside c = place c.loop-i.i c.loop-i-test.true
+inside c = place c c.loop-i.i c.loop-i-test.true
 
 apart : (c : In-loop-i) → Apart c.args.w.now c.args.a c.args.m c.args.t c.rounded_up-count.result
 apart c =
-    let most = (place (c.rounded_up-count.result - 1) (omega arith)).1 in
+    let most = (place c (c.rounded_up-count.result - 1) (omega arith)).1 in
     apart-within c.requires.3 (le_refl _) (le_refl _) (le_refl _) (omega arith)
 
 pub loop-i-init : goal.loop-i-init
