@@ -8,7 +8,8 @@
 #             FLINT, as ratios; no part of the gate. It takes about ten minutes, and four with LARGEST=1024, the largest order of route 2
 # make stack  how much stack each call takes, up to the order LARGEST; no part of the gate
 # make flint  installs FLINT for the benchmark, which does without it where it is missing
-# make clean  removes target/, where everything that is built stands
+# make clean  removes target/, where everything that is built stands, and what the tests generate in Rattle's language, which stands outside the
+#             checkout; what rt keeps, in crates/NAME/out/, stays
 #
 # The steps of the gate are targets of their own; those that draw at random take SEED, as 'make linked SEED=7', and c-interface CALLS too.
 
@@ -23,7 +24,7 @@ WRITTEN_TABLE := definition algebra field primes
 C_INTERFACE := target/tests/c_interface
 ROUNDING := target/tests/rounding
 EXAMPLES := target/examples
-CRATES := crates.txt $(shell find crates -type f)
+CRATES := crates.txt $(shell find crates -name out -prune -o -type f -print)
 PLAIN := $(wildcard tests/second/*.rs tests/second/*/*.rs)
 RUSTC := rustc --edition 2021 -O -D warnings
 PROGRAM := target/bin/job_program
@@ -44,15 +45,12 @@ ADD_PACKAGES := apt-get update && DEBIAN_FRONTEND=noninteractive apt-get install
 SEED := 1
 CALLS := 24000
 LARGEST := 4096
-JOBS := 6
-# where the prover puts temporary files, thousands for each check and 250 MB: in memory, where there are 4 GB of it and programs can be run from there
-MEMORY := $(shell [ "$$(df -k --output=avail /dev/shm 2>/dev/null | tail -n 1)" -gt 4194304 ] 2>/dev/null && \
-	cp /bin/true /dev/shm/true.$$$$ && /dev/shm/true.$$$$ && echo /dev/shm; rm -f /dev/shm/true.$$$$)
+# where the tests write crates of their own: outside the checkout, in which rt ci reads every folder and takes only the crates of crates.txt
+ROOM := $(or $(TMPDIR),/tmp)/ruhitapo-$(shell id -u)-$(shell pwd | cksum | cut -d ' ' -f 1)
+LAWS := $(ROOM)/equations
 
 .PHONY: test run program install bench bench-products stack flint clean toolchain tools
-proofs library definitions wrong-definitions wrong-weights: export TMPDIR := $(or $(MEMORY),/tmp)
-
-.PHONY: formatted trace proofs second definitions wrong-definitions wrong-weights library linked c-interface installed joiner job-tool
+.PHONY: trace proofs second definitions wrong-definitions wrong-weights library linked c-interface installed joiner job-tool
 
 test: tools
 	python3 tests/gate.py
@@ -65,28 +63,24 @@ run: program
 program: toolchain $(PROGRAM)
 
 $(PROGRAM): $(CRATES)
-	@mkdir -p target
+	@mkdir -p $(@D)
 	@echo 'proving and building the job program; what is proved already is not proved again' >&2
-	@rt check job_program > target/program.log || { cat target/program.log; false; }
-	@touch $@
-
-formatted: toolchain
-	rt fmt --check
+	@(cd crates/job_program && rt run < stdin) > target/program.out 2> target/program.log || { cat target/program.log; false; }
+	@cp crates/job_program/out/job_program $@
 
 # every name that the tables of docs/TRACE.md and docs/GUARANTEES.md give stands where they say, and the tests reach what they say;
 # no public function's contract omits its result; crates.txt lists only what is used
 trace: tools $(DEFINITIONS)
-	rm -rf target/trace
-	mkdir -p target/trace
-	$(DEFINITIONS) crates/definition/specs target/trace $(SEED)
-	python3 -B tests/trace/names.py target/trace
+	rm -rf $(ROOM)/trace
+	mkdir -p $(ROOM)/trace
+	$(DEFINITIONS) crates/definition/specs $(ROOM)/trace $(SEED)
+	python3 -B tests/trace/names.py $(ROOM)/trace
 	python3 -B tests/trace/contracts.py
 	python3 -B tests/trace/dependencies.py
 
-# from nothing: every crate is proved, every must-fail edit refused, every program run on its stored input; six at a time on two processors too,
-# since rt waits for all of a batch before it starts the next
+# every crate is laid out and proved, every must-fail edit refused, every program run on its stored input
 proofs: toolchain
-	RT_JOBS=$(JOBS) rt ci
+	rt ci
 
 # the tool that writes and shows job files, and what it says of a file against the job program
 job-tool: tools program
@@ -162,7 +156,10 @@ flint:
 library: toolchain $(ARCHIVE)
 
 $(ARCHIVE): $(CRATES)
-	rt staticlib ruhitapo
+	@mkdir -p $(@D)
+	@echo 'proving and building the C library; what is proved already is not proved again' >&2
+	@(cd crates/ruhitapo && rt lib) > target/library.log 2>&1 || { cat target/library.log; false; }
+	@cp crates/ruhitapo/out/libruhitapo.a $@
 
 # the header, the library and a pkg-config file; the prefix is made absolute, since the latter names it
 install: library
@@ -174,27 +171,28 @@ install: library
 	install -m 644 target/ruhitapo.pc "$$folder/lib/pkgconfig"
 
 # the definitions, held against the second implementation: the prover computes seeded equations in a repository of their own, so that other
-# crates can be proved beside them. The crates that prove the table written out go there with what is proved of them here
+# crates can be proved beside them. The crates that prove the table written out stand there too. What rt kept there stays for the next time
 definitions: tools $(DEFINITIONS)
-	rm -rf target/equations
-	mkdir -p target/equations/crates target/equations/target/rlib target/equations/target/stamp
-	cp -r $(WRITTEN_TABLE:%=crates/%) target/equations/crates
-	for crate in $(WRITTEN_TABLE); do [ ! -f target/stamp/$$crate ] || \
-		{ cp -r target/rlib/$$crate.rlib target/equations/target/rlib && cp target/stamp/$$crate target/equations/target/stamp; }; done
-	sed -n $(WRITTEN_TABLE:%=-e '/^%:/p') crates.txt > target/equations/crates.txt
-	printf '%s: definition\n' $(EQUATIONS) >> target/equations/crates.txt
-	echo 'entries: definition primes' >> target/equations/crates.txt
-	$(DEFINITIONS) crates/definition/specs target/equations/crates $(SEED)
-	cd target/equations && rt check $(EQUATIONS) entries
+	mkdir -p $(LAWS)/crates
+	find $(LAWS) -name out -prune -o -type f -exec rm {} +
+	tar -c -C crates --exclude=out $(WRITTEN_TABLE) | tar -x -C $(LAWS)/crates
+	sed -n $(WRITTEN_TABLE:%=-e '/^%:/p') crates.txt > $(LAWS)/crates.txt
+	printf '%s: definition\n' $(EQUATIONS) >> $(LAWS)/crates.txt
+	echo 'entries: definition primes' >> $(LAWS)/crates.txt
+	$(DEFINITIONS) crates/definition/specs $(LAWS)/crates $(SEED)
+	@for crate in $(EQUATIONS) entries; do \
+		(cd $(LAWS)/crates/$$crate && rt check) > $(ROOM)/definitions.log 2>&1 || { cat $(ROOM)/definitions.log; exit 1; }; \
+		echo "$$crate: proved"; done
 
 # wrong definitions, which those equations must refuse
 wrong-definitions: definitions
-	python3 tests/definitions/refused.py target/equations
+	python3 -B tests/definitions/refused.py $(LAWS) $(ROOM)/refused
 
 # programs that make a weight without a product, which the compiler must refuse
 wrong-weights: tools
-	rt check compose
-	python3 -B tests/weights/refused.py . target/weights
+	@mkdir -p target
+	@(cd crates/compose && rt check) > target/compose.log 2>&1 || { cat target/compose.log; false; }
+	python3 -B tests/weights/refused.py . $(ROOM)/weights
 
 $(SECOND): $(PLAIN)
 	mkdir -p $(@D)
@@ -214,4 +212,4 @@ tools: toolchain
 	@printf '%s\n%s\n' $(RUST) "$$(rustc --version | cut -d ' ' -f 2)" | sort -VC || { echo 'rustc is older than $(RUST)' >&2; exit 1; }
 
 clean:
-	rm -rf target
+	rm -rf target $(ROOM)
