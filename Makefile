@@ -3,8 +3,7 @@
 # make library  the C library, target/staticlib/libruhitapo.a
 # make install PREFIX=dir  the header, the library and a pkg-config file below dir, or below /usr/local; DESTDIR is put before it
 # make bench  each route, an opening and reversion beside the straightforward code of the second implementation and beside FLINT, as ratios
-#             and as the picture target/bench.svg, route 2 at several block lengths, and each route with a short inner list beside a long one;
-#             no part of the gate. It takes about three minutes
+#             and as the picture target/bench.svg, and route 2 at several block lengths; no part of the gate. It takes about three minutes
 # make bench-products  cut products and route 2 beside the straightforward program, its modulus known at run time or to the compiler, and beside
 #             FLINT, as ratios; no part of the gate. It takes about ten minutes, and four with LARGEST=1024, the largest order of route 2
 # make stack  how much stack each call takes, up to the order LARGEST; no part of the gate
@@ -33,7 +32,7 @@ STRICT := -Wall -Wextra -Werror -pedantic
 CC99 := gcc -std=c99 -O2 $(STRICT) -Iinclude
 ARCHIVE := target/staticlib/libruhitapo.a
 # of the C interface
-VERSION := 3.0.0
+VERSION := 2.0.0
 PREFIX := /usr/local
 LINK := -L target/staticlib -l static=ruhitapo
 FLINT = $(shell gcc -E -include flint/nmod_poly.h -x c /dev/null >/dev/null 2>&1 && echo -lflint)

@@ -1,8 +1,6 @@
-/* Two cycles that differ, x + x^2 and then x + 2 x^2, below x^5, modulo 7: the first is outermost. Prints what each leaves, without the zeros
-   at its end, and then the answer of the last. */
+/* Two cycles that differ, x + x^2 and then x + 2 x^2, below x^5, modulo 7: the first is outermost. Prints the answer of the last. */
 #include "ruhitapo.h"
 
-#include <inttypes.h>
 #include <stdio.h>
 
 enum { ORDER = 5, COUNT = 3, CYCLES = 2, WORK = RUHITAPO_CYCLE_WORK_PLACES(ORDER, COUNT) };
@@ -15,13 +13,10 @@ int main(void)
     /* were the opening refused, the chain would be zeros, which every cycle refuses */
     ruhitapo_chain chain = ruhitapo_open(7, ORDER, running, ORDER).chain;
     ruhitapo_cycle_answer answer;
-    size_t i, k;
+    int i;
     for (i = 0; i < CYCLES; i++) {
         answer = ruhitapo_cycle(chain, RUHITAPO_HORNER, lists[i], COUNT, running, ORDER, work, WORK);
         chain = answer.chain;
-        for (k = 0; k < answer.length; k++)
-            printf(k == 0 ? "%" PRIu32 : " %" PRIu32, running[k]);
-        printf("\n");
     }
     fwrite(text, 1, ruhitapo_render(answer.number, ORDER, answer.weight, running, ORDER, text, sizeof text).count, stdout);
     return 0;

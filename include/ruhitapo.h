@@ -81,14 +81,10 @@ enum {
 #define RUHITAPO_TEXT_BYTES(n) (29 + 11 * (size_t)(n))
 #define RUHITAPO_MOST_TEXT_BYTES 45085u
 
-/*
- * What compose and reverse answer. The length is the effective length of out: the place of its last coefficient that is not zero plus one,
- * or 0 where all are zero. So the first `length` places of out are its coefficients without the zeros at the end. After a refusal it is 0.
- */
+/* What compose and reverse answer. */
 typedef struct ruhitapo_answer {
     uint32_t number;
     uint64_t weight;
-    size_t length;
 } ruhitapo_answer;
 
 /*
@@ -108,12 +104,11 @@ typedef struct ruhitapo_open_answer {
     ruhitapo_chain chain;
 } ruhitapo_open_answer;
 
-/* What a cycle answers. The length is the effective length of the running series, as that of out in ruhitapo_answer. */
+/* What a cycle answers. */
 typedef struct ruhitapo_cycle_answer {
     uint32_t number;
     uint64_t weight;
     ruhitapo_chain chain;
-    size_t length;
 } ruhitapo_cycle_answer;
 
 /* What the table answers. */
@@ -142,8 +137,8 @@ typedef struct ruhitapo_text_answer {
  *   8  a coefficient of f or g is p or more, in places of g from n on too
  *
  * Accepted: out holds the n coefficients, each below p; the first 128 n + 8 f_count places of work are zero, later ones as before; the
- * weight is the sum over the products of the route, each counting the places that it is cut to, zeros among them too; the length is the
- * effective length of out. With an empty f the coefficients are zeros, the weight and the length are 0.
+ * weight is the sum over the products of the route, each counting the places that it is cut to. With an empty f the coefficients are
+ * zeros and the weight is 0.
  */
 ruhitapo_answer ruhitapo_compose(uint32_t route, uint32_t p, size_t n,
                                  const uint32_t *f, size_t f_count,
@@ -186,7 +181,7 @@ ruhitapo_answer ruhitapo_compose_blocks(uint32_t route, size_t block, uint32_t p
  *   9  the constant term of g is not zero, or n is above 1 and its linear coefficient is zero: there is no such h
  *
  * Accepted: out holds the n coefficients of h, each below p; the first 128 n + 8 g_count places of work are zero, later ones as before;
- * the weight is 0 and the length the effective length of out. At n = 1 h is the list 0.
+ * the weight is 0. At n = 1 h is the list 0.
  */
 ruhitapo_answer ruhitapo_reverse(uint32_t p, size_t n,
                                  const uint32_t *g, size_t g_count,
@@ -235,8 +230,8 @@ ruhitapo_cycle_answer ruhitapo_cycle_blocks_numbers(uint32_t modulus, size_t ord
  *  11  64 or more cycles are done
  *
  * Accepted: running holds the n coefficients, each below p; the first 144 n + 8 list_count places of work are zero, later ones as before;
- * the chain has one more cycle done; the weight is that of ruhitapo_compose with an f of n places, as the running series is; the length is
- * the effective length of running. Refused: the chain is as it was.
+ * the chain has one more cycle done; the weight is that of ruhitapo_compose with an f of n places, as the running series is. Refused: the chain
+ * is as it was.
  */
 static inline ruhitapo_cycle_answer ruhitapo_cycle(ruhitapo_chain chain, uint32_t route,
                                                    const uint32_t *list, size_t list_count,

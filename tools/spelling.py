@@ -7,6 +7,7 @@ were and are printed.
 """
 import collections
 import glob
+import pathlib
 import re
 import sys
 
@@ -119,14 +120,21 @@ for name, new in sorted(table.items()):
         print("stays, since names would fall together:", name, new)
         del table[name]
 
+# the table of the one run, so that another tree gets the same names
+TABLE = pathlib.Path(__file__).with_name("spelling.tsv")
+if TABLE.exists():
+    table = dict(line.split("\t") for line in TABLE.read_text(encoding="utf-8").splitlines())
+# a word of src/ that is no name of the definitions
+SOURCE = {"low_part"}
+
 # steps of a proof that Rattle names after a function of src/ are no names of the repository's
 MADE = re.compile(r"\b(?:c|tie|goal|before|args)\.$")
 
 
-def turned(text, whole):
+def turned(text, whole, source=False):
     def one(m):
         word = m[0]
-        if word in table:
+        if word in table and not (source and word in SOURCE):
             if text[m.start() - 1 : m.start()] == "." and MADE.search(text[max(0, m.start() - 12) : m.start()]):
                 return word
             return table[word]
@@ -142,7 +150,7 @@ if "--table" in sys.argv:
 count = 0
 for path in list(files()) + list(others()):
     text = read(path)
-    new = turned(text, path.startswith("crates/"))
+    new = turned(text, path.startswith("crates/"), path.endswith((".rt", ".edit")))
     if new != text:
         count += 1
         with open(path, "w", encoding="utf-8") as f:

@@ -6,9 +6,9 @@
 //! constant term, so all are given one. At a prime of the table an opening is little more than a look
 //! at it; a prime outside, of the same size, is opened too, which is trial division. Printed are the
 //! shortest times and their ratios; below 1 the library is the quicker one. After each prime stand
-//! route 4 and reversion the other way round, FLINT's times over the library's. Then come route 2
-//! at several block lengths and the routes with a short inner list, at the first prime. A picture of
-//! the times at that prime goes to the file that is named.
+//! route 4 and reversion the other way round, FLINT's times over the library's. Then comes route 2
+//! at several block lengths, at the first prime. A picture of the times at that prime goes to the file
+//! that is named.
 
 #[allow(dead_code)]
 #[path = "../second/checks/mod.rs"]
@@ -24,7 +24,6 @@ mod picture;
 #[path = "../second/plain/mod.rs"]
 mod plain;
 mod runs;
-mod short;
 mod summary;
 
 use checks::library::{Library, Plain};
@@ -145,11 +144,6 @@ fn main() {
     let mut random = Random::new(1);
     let tables = MODULI.map(|p| measured_at(&mut random, p));
     print!("{}", lengths::table(&lists(&mut random, MODULI[0], lengths::ORDER)));
-    print!("{}", short::head(MODULI[0]));
-    for n in short::ORDERS {
-        print!("{}", short::lines(lists(&mut random, MODULI[0], n), &tables[0]));
-    }
-    println!();
     print!("{}", summary::NOTES);
     if tables[0].iter().all(|row| row.flint.is_err()) {
         println!("FLINT is not installed: 'make flint' installs it.");

@@ -110,15 +110,6 @@ static uint64_t expected_weight(const struct call *c, uint32_t number)
     return number == 0 ? plain_weight(c->route, block_length(c), c->p, c->n, outer_count) : 0;
 }
 
-/* The effective length that came back is that of what had to be written, 0 after a refusal; it is counted. */
-static void compare_length(const struct call *c, uint32_t number, size_t found)
-{
-    size_t length = number == 0 ? plain_length(fence_expected(&out_fence), c->n) : 0;
-    call_compare("length", length, found);
-    if (number == 0)
-        tally.ended[c->kind][length == 0 ? ALL_ZERO : length == c->n ? WHOLE : length == 1 ? CONSTANT_ONLY : SHORTER]++;
-}
-
 /* The library's answer to a composition. */
 static ruhitapo_answer composed(const struct call *c, const uint32_t *f, const uint32_t *g, uint32_t *out, uint32_t *work)
 {
@@ -141,7 +132,6 @@ static struct returned make_compose(const struct call *c)
     call_compare("weight", expected_weight(c, number), answer.weight);
     if (number == 0)
         plain_compose(c->p, c->n, f, c->f_count, g, c->g_count, fence_expected(&out_fence));
-    compare_length(c, number, answer.length);
     compare_buffer("output", &out_fence, sizeof *out);
     compare_work(c, number);
     return (struct returned){answer.number, answer.weight, no_chain};
@@ -158,7 +148,6 @@ static struct returned make_reverse(const struct call *c)
     call_compare("weight", 0, answer.weight);
     if (number == 0)
         plain_reverse(c->p, c->n, g, c->g_count, fence_expected(&out_fence));
-    compare_length(c, number, answer.length);
     compare_buffer("output", &out_fence, sizeof *out);
     compare_work(c, number);
     return (struct returned){answer.number, answer.weight, no_chain};
@@ -219,7 +208,6 @@ static struct returned make_cycle(const struct call *c)
     chain = compare_chain((struct chain){c->p, c->n, c->done + (number == 0)}, answer.chain);
     if (number == 0)
         plain_compose(c->p, c->n, c->g, c->n, list, c->f_count, fence_expected(&out_fence));
-    compare_length(c, number, answer.length);
     compare_buffer("running", &out_fence, sizeof *running);
     compare_work(c, number);
     return (struct returned){answer.number, answer.weight, chain};

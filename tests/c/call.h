@@ -38,14 +38,10 @@ struct call {
     uint32_t f[MOST_PLACES], g[MOST_PLACES];
 };
 
-/* The effective length of what an accepted call wrote: 0, 1, between, or all places. */
-enum ending { ALL_ZERO, CONSTANT_ONLY, SHORTER, WHOLE, ENDINGS };
-
 /* What was compared so far. */
 struct tally {
     uint64_t calls, comparisons, differences;
     uint64_t returned[KINDS][NUMBERS];
-    uint64_t ended[KINDS][ENDINGS];
 };
 
 extern struct tally tally;
@@ -69,7 +65,7 @@ struct returned {
     struct chain chain;
 };
 
-/* Makes the call and compares number, weight or count, effective length, chain, and every place of every buffer. */
+/* Makes the call and compares number, weight or count, chain, and every place of every buffer. */
 struct returned call_make(const struct call *call);
 
 /* Compares two numbers. */

@@ -49,10 +49,9 @@ static const struct {
     IS(2 * (29 + 11 * 4), 2 * RUHITAPO_TEXT_BYTES(1 + 3)),
     IS(29 + UINT64_C(11) * UINT32_MAX, RUHITAPO_TEXT_BYTES(UINT32_MAX)),
     /* the structs as the library lays them out */
-    IS(24, sizeof(ruhitapo_answer)),
+    IS(16, sizeof(ruhitapo_answer)),
     IS(0, offsetof(ruhitapo_answer, number)),
     IS(8, offsetof(ruhitapo_answer, weight)),
-    IS(16, offsetof(ruhitapo_answer, length)),
     IS(24, sizeof(ruhitapo_chain)),
     IS(0, offsetof(ruhitapo_chain, modulus)),
     IS(8, offsetof(ruhitapo_chain, order)),
@@ -61,11 +60,10 @@ static const struct {
     IS(0, offsetof(ruhitapo_open_answer, number)),
     IS(8, offsetof(ruhitapo_open_answer, weight)),
     IS(16, offsetof(ruhitapo_open_answer, chain)),
-    IS(48, sizeof(ruhitapo_cycle_answer)),
+    IS(40, sizeof(ruhitapo_cycle_answer)),
     IS(0, offsetof(ruhitapo_cycle_answer, number)),
     IS(8, offsetof(ruhitapo_cycle_answer, weight)),
     IS(16, offsetof(ruhitapo_cycle_answer, chain)),
-    IS(40, offsetof(ruhitapo_cycle_answer, length)),
     IS(8, sizeof(ruhitapo_prime_answer)),
     IS(0, offsetof(ruhitapo_prime_answer, number)),
     IS(4, offsetof(ruhitapo_prime_answer, prime)),
@@ -94,7 +92,6 @@ static void compare_fields(void)
 {
     FIELD(4, ruhitapo_answer, number);
     FIELD(8, ruhitapo_answer, weight);
-    FIELD(sizeof(size_t), ruhitapo_answer, length);
     FIELD(4, ruhitapo_chain, modulus);
     FIELD(sizeof(size_t), ruhitapo_chain, order);
     FIELD(4, ruhitapo_chain, done);
@@ -102,7 +99,6 @@ static void compare_fields(void)
     FIELD(8, ruhitapo_open_answer, weight);
     FIELD(4, ruhitapo_cycle_answer, number);
     FIELD(8, ruhitapo_cycle_answer, weight);
-    FIELD(sizeof(size_t), ruhitapo_cycle_answer, length);
     FIELD(4, ruhitapo_prime_answer, number);
     FIELD(4, ruhitapo_prime_answer, prime);
     FIELD(4, ruhitapo_text_answer, number);

@@ -118,15 +118,6 @@ void plain_reverse(uint32_t p, size_t n, const uint32_t *g, size_t g_count, uint
     free(powers);
 }
 
-size_t plain_length(const uint32_t *list, size_t count)
-{
-    size_t i, length = 0;
-    for (i = 0; i < count; i++)
-        if (list[i] != 0)
-            length = i + 1;
-    return length;
-}
-
 size_t plain_text(uint32_t number, size_t n, uint64_t weight, const uint32_t *list, size_t list_count, char *text, size_t room)
 {
     size_t at, i;

@@ -40,9 +40,6 @@ void plain_compose(uint32_t p, size_t n, const uint32_t *f, size_t f_count, cons
 /* out = the reverse series of g modulo x^n, coefficient by coefficient. */
 void plain_reverse(uint32_t p, size_t n, const uint32_t *g, size_t g_count, uint32_t *out);
 
-/* The place of the last number of the list that is not zero plus one, or 0. */
-size_t plain_length(const uint32_t *list, size_t count);
-
 /* Writes the text and a zero byte, for at most 4096 coefficients, and returns the count of bytes before it. */
 size_t plain_text(uint32_t number, size_t n, uint64_t weight, const uint32_t *list, size_t list_count, char *text, size_t room);
 

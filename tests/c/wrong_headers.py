@@ -61,10 +61,10 @@ MACROS = {
     ],
 }
 FIELDS = {
-    "answer": ["uint32_t number", "uint64_t weight", "size_t length"],
+    "answer": ["uint32_t number", "uint64_t weight"],
     "chain": ["uint32_t modulus", "size_t order", "uint32_t done"],
     "open_answer": ["uint32_t number", "uint64_t weight", "ruhitapo_chain chain"],
-    "cycle_answer": ["uint32_t number", "uint64_t weight", "ruhitapo_chain chain", "size_t length"],
+    "cycle_answer": ["uint32_t number", "uint64_t weight", "ruhitapo_chain chain"],
     "prime_answer": ["uint32_t number", "uint32_t prime"],
     "text_answer": ["uint32_t number", "size_t count"],
 }
@@ -189,8 +189,7 @@ def wrong_functions(text):
     for name, call in found:
         for part, wrong in PASSED[name]:
             yield (name,), once(text, call, once(" ".join(call.split()), part, wrong))
-        for wrong in ("answer.chain = chain;", "answer.length = chain.order;"):
-            yield (name,), once(text, f"return {call}", f"ruhitapo_cycle_answer answer = {call} {wrong} return answer;")
+        yield (name,), once(text, f"return {call}", f"ruhitapo_cycle_answer answer = {call} answer.chain = chain; return answer;")
 
 
 def wrong_headers(text):

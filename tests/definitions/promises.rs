@@ -1,10 +1,9 @@
-//! What each call promises, of the second implementation's own answers on dirty buffers: accepted calls and refused ones. Of reversion it is the
-//! effective length alone, since the rest of its promise is not made of equations.
+//! What each call promises, of the second implementation's own answers on dirty buffers: accepted calls and refused ones. Reversion is not
+//! among them, since its promise is not made of equations.
 
 use crate::files;
-use crate::plain::calls::{self, Answer};
 use crate::plain::random::Random;
-use crate::plain::{chain::Chain, job, refusals, render};
+use crate::plain::{calls, chain::Chain, job, refusals, render};
 use crate::rows::{list, record, PRIMES};
 use crate::written::Law;
 
@@ -13,11 +12,11 @@ pub fn all(random: &mut Random) -> Vec<Law> {
     for route in 0..6 {
         let p = random.pick(&PRIMES);
         let block = random.block();
-        laws.extend(compose(random, p, route, block, 1 + route as usize % 2));
+        laws.push(compose(random, p, route, block, 1 + route as usize % 2));
     }
-    laws.extend(compose(random, 7, 2, 4, 0));
+    laws.push(compose(random, 7, 2, 4, 0));
     for (route, block) in [(2, 0), (2, 1), (2, 64), (2, 65), (1, 0), (3, 65)] {
-        laws.extend(compose(random, 7, route, block, 1));
+        laws.push(compose(random, 7, route, block, 1));
     }
     for fault in 0..4 {
         for _ in 0..4 {
@@ -28,13 +27,12 @@ pub fn all(random: &mut Random) -> Vec<Law> {
     }
     for done in [0, 1, 62, 63, 64, 65] {
         let p = random.pick(&PRIMES);
-        laws.extend(cycle(random, p, done));
-        laws.push(reverse(random, p));
+        laws.push(cycle(random, p, done));
     }
     // the second cycle of the settled case, by every route
     for route in 1..=4 {
         let chain = Chain { modulus: 7, order: 5, done: 1 };
-        laws.extend(cycle_of(random, chain, (route, 4), &[0, 1, 2], &[0, 1, 1, 0, 0]));
+        laws.push(cycle_of(random, chain, (route, 4), &[0, 1, 2], &[0, 1, 1, 0, 0]));
     }
     for index in 16..20 {
         laws.push(table(index));
@@ -45,15 +43,15 @@ pub fn all(random: &mut Random) -> Vec<Law> {
 
 /// Accepted calls with this modulus: compose by every route, an opening and a cycle.
 pub fn accepted(random: &mut Random, p: u64) -> Vec<Law> {
-    let mut laws: Vec<Law> = (1..=4).flat_map(|route| compose(random, p, route, 4, 1)).collect();
+    let mut laws: Vec<Law> = (1..=4).map(|route| compose(random, p, route, 4, 1)).collect();
     laws.push(opening(random, p, 0));
-    laws.extend(cycle(random, p, 0));
+    laws.push(cycle(random, p, 0));
     laws
 }
 
 /// Routes 0 and 5 are refused, and by route 2 a block length of 0 or above 64. The work lent is one
 /// place short for 0, exact for 1, one place more for 2.
-fn compose(random: &mut Random, p: u64, route: u64, block: u64, lent: usize) -> [Law; 2] {
+fn compose(random: &mut Random, p: u64, route: u64, block: u64, lent: usize) -> Law {
     let n = 1;
     let (f, g) = (random.list(p, 2), random.list(p, 2));
     let places = refusals::work_places(n, f.len()) as usize + lent - 1;
@@ -61,27 +59,10 @@ fn compose(random: &mut Random, p: u64, route: u64, block: u64, lent: usize) -> 
     let (mut out, mut work) = (before.clone(), work_before.clone());
     let answer = calls::compose(route, block, p, n, &f, &g, &mut out, &mut work);
     let lists = [&f, &g, &before, &out, &work_before, &work].map(|places| list(places)).join(" ");
-    let composed = Law::promised(
+    Law::promised(
         format!("Compose {route} {block} {p} {n} {lists} {} {}", answer.number, answer.weight),
         &["refusal", "weighs", "output", "clears"],
-    );
-    [composed, length(answer, &out)]
-}
-
-/// The effective length beside an answer of compose, reverse or a cycle that left this list.
-fn length(answer: Answer, left: &[u32]) -> Law {
-    let length = answer.length.expect("an effective length");
-    Law::promised(format!("Length {} {} {length}", answer.number, list(left)), &["measures"])
-}
-
-/// A reverse series, or where there is none a refusal.
-fn reverse(random: &mut Random, p: u64) -> Law {
-    let (n, mut g) = (random.count(1, 4), random.list(p, 3));
-    g[0] = 0;
-    let mut out = random.buffer(n);
-    let mut work = random.buffer(refusals::work_places(n as u64, g.len()) as usize);
-    let answer = calls::reverse(p, n as u64, &g, &mut out, &mut work);
-    length(answer, &out)
+    )
 }
 
 /// An opening: in order, or with a modulus that is not prime, an order of 0, or a place too many.
@@ -99,7 +80,7 @@ fn opening(random: &mut Random, prime: u64, fault: u64) -> Law {
 }
 
 /// A cycle of a chain with so many done.
-fn cycle(random: &mut Random, modulus: u64, done: u64) -> [Law; 2] {
+fn cycle(random: &mut Random, modulus: u64, done: u64) -> Law {
     let (way, n) = ((random.route(), random.block()), random.count(1, 3));
     let (mut c, mut before) = (random.list(modulus, 3), random.list(modulus, n));
     c[0] = 0;
@@ -114,21 +95,20 @@ fn cycle_of(
     (route, block): (u64, u64),
     c: &[u32],
     before: &[u32],
-) -> [Law; 2] {
+) -> Law {
     let places = refusals::cycle_work_places(chain.order, c.len()) as usize + random.count(0, 1);
     let work_before = random.buffer(places);
     let (mut series, mut work) = (before.to_vec(), work_before.clone());
     let (after, answer) = chain.cycle(route, block, c, &mut series, &mut work);
     let lists = [c, before, &series, &work_before, &work].map(|places| list(places)).join(" ");
     let (before, after) = (record(chain), record(after));
-    let cycled = Law::promised(
+    Law::promised(
         format!(
             "Cycle {route} {block} {before} {lists} {} {} {after}",
             answer.number, answer.weight
         ),
         &["refusal", "weighs", "records", "running", "clears"],
-    );
-    [cycled, length(answer, &series)]
+    )
 }
 
 /// An index past the table.

@@ -36,7 +36,6 @@ pub fn all(random: &mut Random) -> Vec<String> {
         equations.extend(composition(random));
         equations.extend(reverse(random));
         equations.push(running(random));
-        equations.push(effective_length(random));
         equations.extend(numbers(random));
         equations.push(late(random));
         equations.push(text(random));
@@ -106,13 +105,6 @@ fn running(random: &mut Random) -> String {
     let series = products::places(&chain::composition(p, &cycles), n);
     let shown: Vec<String> = cycles.iter().map(|cycle| list(cycle)).collect();
     format!("running {p} {n} {} ≡ {}", list(&shown), list(&series))
-}
-
-/// Lists with many zeros, at the end too.
-fn effective_length(random: &mut Random) -> String {
-    let (count, p) = (random.count(0, 6), random.pick(&[1, 2, 2, 3]));
-    let places = random.list(p, count);
-    format!("effective_length {} ≡ {}", list(&places), products::effective_length(&places))
 }
 
 /// The number of each call, at arguments on both sides of its bounds.

@@ -13,7 +13,7 @@ use lib.ListN.{replicate}
 use mathlib.Core.Bool.{true, false}
 use mathlib.Core.List.{List, [], _∷_, _++_}
 use mathlib.Core.Path.{_≡_, refl}
-use Rattle·definition.specs.Calls.{Compose, Cycle, Job, Length, Open, Render, Table}
+use Rattle·definition.specs.Calls.{Compose, Cycle, Job, Open, Render, Table}
 ";
 
 /// What a law states, its proof, and the definitions that it does not unfold.

@@ -1,5 +1,5 @@
-//! Calls of the linked library, compared to the last place: number, weight, effective length, chain
-//! record, output and every place of the work buffer. The buffers are dirty before, and the work buffer is of the
+//! Calls of the linked library, compared to the last place: number, weight, chain record, output
+//! and every place of the work buffer. The buffers are dirty before, and the work buffer is of the
 //! length needed or longer.
 
 use crate::checks::library::{Call, Input, Left, Library, Plain};

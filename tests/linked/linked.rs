@@ -8,7 +8,6 @@ use crate::plain::chain::Chain;
 struct CallAnswer {
     number: u32,
     weight: u64,
-    length: usize,
 }
 
 #[repr(C)]
@@ -30,19 +29,12 @@ struct ChainRecord {
     done: u32,
 }
 
+/// The answer of an opening and of a cycle.
 #[repr(C)]
-struct OpenAnswer {
+struct ChainAnswer {
     number: u32,
     weight: u64,
     chain: ChainRecord,
-}
-
-#[repr(C)]
-struct CycleAnswer {
-    number: u32,
-    weight: u64,
-    chain: ChainRecord,
-    length: usize,
 }
 
 // A list passes as its pointer and its count.
@@ -99,7 +91,7 @@ extern "C" {
         text_count: usize,
     ) -> TextAnswer;
 
-    fn ruhitapo_open(p: u32, n: usize, running: *mut u32, running_count: usize) -> OpenAnswer;
+    fn ruhitapo_open(p: u32, n: usize, running: *mut u32, running_count: usize) -> ChainAnswer;
 
     fn ruhitapo_cycle_numbers(
         modulus: u32,
@@ -112,7 +104,7 @@ extern "C" {
         running_count: usize,
         work: *mut u32,
         work_count: usize,
-    ) -> CycleAnswer;
+    ) -> ChainAnswer;
 
     fn ruhitapo_cycle_blocks_numbers(
         modulus: u32,
@@ -126,7 +118,7 @@ extern "C" {
         running_count: usize,
         work: *mut u32,
         work_count: usize,
-    ) -> CycleAnswer;
+    ) -> ChainAnswer;
 }
 
 /// The linked library.
@@ -171,9 +163,7 @@ impl Library for Linked {
 
     fn open(p: u64, n: u64, running: &mut [u32]) -> (Chain, Answer) {
         let (p, n, count) = (word(p), n as usize, running.len());
-        let found = unsafe { ruhitapo_open(p, n, running.as_mut_ptr(), count) };
-        let answer = Answer { number: found.number, weight: found.weight, length: None };
-        (chain(found.chain), answer)
+        chain(unsafe { ruhitapo_open(p, n, running.as_mut_ptr(), count) })
     }
 
     fn cycle(
@@ -188,7 +178,7 @@ impl Library for Linked {
         let (route, list, list_count) = (word(route), list.as_ptr(), list.len());
         let (count, work_count) = (running.len(), work.len());
         let (running, work) = (running.as_mut_ptr(), work.as_mut_ptr());
-        let found = match block.map(length) {
+        chain(match block.map(length) {
             None => unsafe {
                 ruhitapo_cycle_numbers(
                     p, n, done, route, list, list_count, running, count, work, work_count,
@@ -199,9 +189,7 @@ impl Library for Linked {
                     p, n, done, route, block, list, list_count, running, count, work, work_count,
                 )
             },
-        };
-        let length = Some(found.length as u64);
-        (chain(found.chain), Answer { number: found.number, weight: found.weight, length })
+        })
     }
 
     fn table(index: u64) -> (u32, u32) {
@@ -227,11 +215,11 @@ fn length(block: u64) -> usize {
 }
 
 fn answer(found: CallAnswer) -> Answer {
-    let length = Some(found.length as u64);
-    Answer { number: found.number, weight: found.weight, length }
+    Answer { number: found.number, weight: found.weight }
 }
 
-fn chain(found: ChainRecord) -> Chain {
-    let ChainRecord { modulus, order, done } = found;
-    Chain { modulus: modulus.into(), order: order as u64, done: done.into() }
+fn chain(found: ChainAnswer) -> (Chain, Answer) {
+    let ChainRecord { modulus, order, done } = found.chain;
+    let record = Chain { modulus: modulus.into(), order: order as u64, done: done.into() };
+    (record, Answer { number: found.number, weight: found.weight })
 }

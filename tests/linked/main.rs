@@ -1,8 +1,7 @@
 //! The calls of the proved library, linked as a static library, held against the plain second
-//! implementation: number, weight, effective length, chain record, output and the whole work or text
-//! buffer of every call; and the job program, run on files. The checks that the second
-//! implementation makes of itself are made of them too. The seed of the random cases is the first
-//! argument.
+//! implementation: number, weight, chain record, output and the whole work or text buffer of every
+//! call; and the job program, run on files. The checks that the second implementation makes of
+//! itself are made of them too. The seed of the random cases is the first argument.
 
 mod agreement;
 mod chain;
@@ -25,12 +24,12 @@ mod streams;
 mod traps;
 
 use checks::support::{run, Check};
-use checks::{blocks, calls, cut, equality, job, lengths, primes, render, reversion, settled};
+use checks::{blocks, calls, cut, equality, job, primes, render, reversion, settled};
 use compare::Both;
 use program::Built;
 use std::process::ExitCode;
 
-const GROUPS: [(&str, Check); 77] = [
+const GROUPS: [(&str, Check); 72] = [
     ("settled examples", settled::examples::<Both>),
     ("edges", settled::edges::<Both>),
     ("every small shape", shapes::every_small),
@@ -49,7 +48,6 @@ const GROUPS: [(&str, Check); 77] = [
     ("products: every order up to 300", products::every_order),
     ("products: around each size where the method changes", products::around_changes),
     ("products: the largest orders", products::largest_orders),
-    ("products: inner lists that end early", products::ending_early),
     ("trap: f cut to n terms", traps::outer_cut),
     ("trap: order rounded down", traps::order_rounded_down),
     ("trap: d fixed", traps::window_fixed),
@@ -82,10 +80,6 @@ const GROUPS: [(&str, Check); 77] = [
     ("chain: order 4096", chain::largest_order),
     ("chain: cut at every cycle", cut::every_split::<Both>),
     ("chain: cycles undone", cut::undone::<Both>),
-    ("effective length: of results of every length", lengths::every_length::<Both>),
-    ("effective length: few places", lengths::few_places::<Both>),
-    ("effective length: of reverse series", lengths::reversed::<Both>),
-    ("effective length: along chains", lengths::along_chains::<Both>),
     ("equality: random pairs", equality::random_pairs::<Both>),
     ("equality: random block lengths", equality::random_lengths::<Both>),
     ("equality: exhaustive pairs", equality::exhaustive_pairs::<Both>),

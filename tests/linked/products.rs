@@ -2,7 +2,7 @@
 //! around each larger size where a product may change its method, for primes on both sides of 2^30
 //! and of 2^31.
 //! The second implementation makes the powers of g that say the value, and every place of the
-//! buffers is 2^32 - 1 before the call. Then inner lists that end early, by routes 1 to 3.
+//! buffers is 2^32 - 1 before the call.
 
 use crate::checks::support::{weight, Case, Tally};
 use crate::compare::composed_over;
@@ -10,14 +10,10 @@ use crate::plain::field;
 use crate::plain::primes::LARGEST_PRIME;
 use crate::plain::products::{places, product};
 use crate::plain::random::Random;
-use crate::plain::routes::horner;
 
 pub const MODULI: [u64; 8] =
     [2, 3, 65_537, 1_073_741_789, 1_073_741_827, 2_147_483_647, 2_147_483_659, LARGEST_PRIME];
 const EVERY_ORDER: usize = 300;
-
-/// The longest outer list beside an inner list that ends early.
-const LONGEST_OUTER: usize = 2100;
 
 /// The place that the buffers hold before a call.
 const DIRTY: u32 = u32::MAX;
@@ -91,31 +87,4 @@ pub fn around_changes(tally: &mut Tally, random: &mut Random) {
 
 pub fn largest_orders(tally: &mut Tally, random: &mut Random) {
     at_orders(tally, random, 4094..=4096);
-}
-
-/// The count of places from which on a factor is not short: one with fewer is multiplied by rows.
-fn not_short(n: usize) -> usize {
-    n / 6 + 104
-}
-
-/// Inner lists that end early, and outer lists long enough that the running value fills all places,
-/// or nearly: first both factors of a product are short, then one of them, and at last, where the
-/// inner list has places enough, none.
-pub fn ending_early(tally: &mut Tally, random: &mut Random) {
-    for p in [2, 65_537, 2_147_483_647, LARGEST_PRIME] {
-        for n in [20, 21, 128, 129, 256, 257, 1024, 1025, 4096] {
-            let change = not_short(n);
-            let counts = [0, 1, 2, 3, 8, 9, change - 1, change, change + 1];
-            for count in counts.into_iter().filter(|&count| count <= n) {
-                let m = (n / (count.max(2) - 1) + 3).min(LONGEST_OUTER);
-                let (f, mut g) = (random.list(p, m), random.list(p, count));
-                if let Some(last) = g.last_mut() {
-                    *last = random.non_zero(p);
-                }
-                let case = Case { p, n, f, g };
-                let (value, _) = horner(p, &case.f, &case.g, n);
-                (1..=3).for_each(|number| one(tally, number, &case, &value));
-            }
-        }
-    }
 }

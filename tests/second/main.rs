@@ -7,11 +7,11 @@ mod plain;
 
 use checks::library::Plain;
 use checks::support::{run, Check};
-use checks::{blocks, calls, chain, cut, equality, job, lengths, primes, render, reversion};
-use checks::{routes, settled, traps, wrong};
+use checks::{blocks, calls, chain, cut, equality, job, primes, render, reversion, routes};
+use checks::{settled, traps, wrong};
 use std::process::ExitCode;
 
-const GROUPS: [(&str, Check); 51] = [
+const GROUPS: [(&str, Check); 45] = [
     ("settled examples", settled::examples::<Plain>),
     ("whole case", settled::whole_case::<Plain>),
     ("edges", settled::edges::<Plain>),
@@ -46,12 +46,6 @@ const GROUPS: [(&str, Check); 51] = [
     ("chain: cut at every cycle", cut::every_split::<Plain>),
     ("chain: cycles undone", cut::undone::<Plain>),
     ("chain: cut and undone, misread", wrong::cut_and_undone),
-    ("effective length: of lists", lengths::of_lists),
-    ("effective length: of results of every length", lengths::every_length::<Plain>),
-    ("effective length: few places", lengths::few_places::<Plain>),
-    ("effective length: of reverse series", lengths::reversed::<Plain>),
-    ("effective length: along chains", lengths::along_chains::<Plain>),
-    ("effective length: misread", wrong::effective_lengths),
     ("primality", primes::primality),
     ("table", primes::table::<Plain>),
     ("rendering", render::render::<Plain>),

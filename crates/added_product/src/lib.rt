@@ -1,6 +1,7 @@
 // The product of two parts of a list modulo p, added to a third part, at most 4096 places each: the n places from t on become they + A B
 // modulo p, cut to n places, where A and B are the n places from a and from b on. The factors are read before the target is written, so
 // that the parts may lie in any way. There is a function for each range of lengths, and the caller chooses.
+#![tactic(auto)]
 ghost use Rattle.std.specs.Prelude.{◌≡◌, ◌+◌, ◌<◌, ◌≤◌, length};
 ghost use Rattle.std.proofs.lemmas.List.Edits.{sets};
 ghost use Rattle.buffer.specs.Segments.{segment};
@@ -23,7 +24,7 @@ fn load(p: u32, n: usize, x: &[u32], z: &mut [u32])
 }
 
 // Adds the first n places of z, which are residues, to the n places of w from t on.
-pub fn add_places(p: u32, n: usize, z: &[u32], w: &mut [u32], t: usize)
+fn add_places(p: u32, n: usize, z: &[u32], w: &mut [u32], t: usize)
     requires { (0 < p) × (n ≤ length z.now) × Residues p n z.now × (t + n ≤ length w.old) }
     ensures { w.new ≡ sets w.old t (cut_sum p n (segment w.old t n) z.now) }
 {

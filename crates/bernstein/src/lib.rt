@@ -13,7 +13,7 @@ ghost use Rattle.buffer.specs.Segments.{segment};
 ghost use Rattle.route.specs.Contract.{Lent, Route};
 ghost use Rattle.bernstein.specs.Level.{Joined, Level, PartReady, PartValue, Room, rest_at};
 
-use product::{Measured, Weight};
+use product::Weight;
 
 // Writes f(0) modulo p, for f of at most one place.
 fn constant(p: u32, n: usize, m: usize, w: &mut [u32])
@@ -42,7 +42,7 @@ fn join(p: u32, n: usize, m: usize, w: &mut [u32]) -> Weight
 {
     let value = n + m;
     let next = value + n;
-    let places = product::multiply_add(p, n, w, value, 0, next).weight;
+    let places = product::multiply_add(p, n, w, value, 0, next);
     buffer::copy_part(w, next, value, n);
     places
 }
@@ -98,18 +98,15 @@ fn level(p: u32, n: usize, m: usize, w: &mut [u32]) -> Weight
 }
 
 // Route 3: f(g) modulo x^n, for a prime p, at place 0 of w.
-pub fn bernstein(p: u32, n: usize, f: &[u32], g: &[u32], w: &mut [u32]) -> Measured
+pub fn bernstein(p: u32, n: usize, f: &[u32], g: &[u32], w: &mut [u32]) -> Weight
     requires { Lent p n (length f.now) (length w.old) × Prime p }
     ensures { Route p n f.now g.now (bernstein_weight p n (length f.now))
-        w.old w.new result.weight.places result.length }
+        w.old w.new result.places }
 {
     let m = f.len();
     route::put(g, n, w, 0);
     route::put(f, m, w, n);
     let weight = level(p, n, m, w);
-    let length = route::deliver(w, n + m, n);
-    Measured {
-        weight: weight,
-        length: length,
-    }
+    buffer::copy_part(w, n + m, 0, n);
+    weight
 }

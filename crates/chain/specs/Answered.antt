@@ -11,14 +11,14 @@ use Rattle.std.proofs.lemmas.List.Edits.{sets}
 use Rattle.algebra.specs.Lists.{length-tabulate, tabulate_cong}
 use Rattle.buffer.specs.Written.{sets-whole}
 use Rattle.definition.specs.Answer.{cleared}
-use Rattle.definition.specs.Calls.{Cycle, Length, Open}
+use Rattle.definition.specs.Calls.{Cycle, Open}
 use Rattle.definition.specs.Chain.{Chain, next_chain, opened_chain}
 use Rattle.definition.specs.Lists.{coefficient, tabulate}
 use Rattle.definition.specs.Refusal.{cycle_refusal, cycle_work, open_refusal}
 use Rattle.definition.specs.Reversion.{identity, identity_at}
 use Rattle.definition.specs.Substitution.{constant}
 use Rattle.definition.specs.Weight.{weight}
-use Rattle.refusal.specs.Answers.{answered-accepted, answered-refused, kept-accepted, kept-refused, length-accepted, length-refused}
+use Rattle.refusal.specs.Answers.{answered-accepted, answered-refused, kept-accepted, kept-refused}
 use Rattle.route.specs.Contract.{Finished, Route, route_finished}
 
 coefficient-identity : (k : ℕ) → coefficient (0 ∷ 1 ∷ []) k ≡ identity_at k
@@ -63,32 +63,26 @@ next-refused zero chain refused = absurd (refused refl)
 next-refused (suc number) chain refused = refl
 
 module _ {route b : ℕ} {chain : Chain} (c s work : List ℕ) {number : ℕ} (tested : number ≡ cycle_refusal route b chain c s (length work)) where
-  pub cycle-refused : number ≢ 0 → Cycle route b chain c s s work work number 0 chain × Length number s 0
-  cycle-refused refused = (
-    record {
-      refusal = tested;
-      weighs = sym (answered-refused number _ refused);
-      records = sym (next-refused number chain refused);
-      running = sym (kept-refused number _ s refused);
-      clears = sym (kept-refused number _ work refused);
-    },
-    length-refused s refused,
-  )
+  pub cycle-refused : number ≢ 0 → Cycle route b chain c s s work work number 0 chain
+  cycle-refused refused = record {
+    refusal = tested;
+    weighs = sym (answered-refused number _ refused);
+    records = sym (next-refused number chain refused);
+    running = sym (kept-refused number _ s refused);
+    clears = sym (kept-refused number _ work refused);
+  }
 
-  pub cycle-accepted : {s' then work' : List ℕ} {places result weighed length' : ℕ} → number ≡ 0 → length s ≡ chain.order
-      → Route chain.modulus chain.order s c (weight route b chain.modulus chain.order (length s)) work then result length' → weighed ≡ result
+  pub cycle-accepted : {s' then work' : List ℕ} {places result weighed : ℕ} → number ≡ 0 → length s ≡ chain.order
+      → Route chain.modulus chain.order s c (weight route b chain.modulus chain.order (length s)) work then result → weighed ≡ result
       → places ≡ cycle_work chain.order (length c) → Finished places then work' s s'
       → Cycle route b chain c s s' work work' 0 weighed (record { modulus = chain.modulus; order = chain.order; done = chain.done + 1 })
-      × Length 0 s' length'
   unfolding next_chain
   cycle-accepted accepted size run read counts finish =
-      let finished = route_finished run (omega (arith, counts)) size finish in (
-        record {
-          refusal = sym accepted ∙ tested;
-          weighs = read ∙ run.sum ∙ ap (weight route b chain.modulus chain.order) size ∙ sym (answered-accepted _ refl);
-          records = refl;
-          running = finished.0 ∙ sym (kept-accepted _ s refl);
-          clears = finished.1 ∙ ap (λ k. cleared k work) counts ∙ sym (kept-accepted _ work refl);
-        },
-        length-accepted finished.2,
-      )
+      let finished = route_finished run (omega (arith, counts)) size finish in
+      record {
+        refusal = sym accepted ∙ tested;
+        weighs = read ∙ run.sum ∙ ap (weight route b chain.modulus chain.order) size ∙ sym (answered-accepted _ refl);
+        records = refl;
+        running = finished.0 ∙ sym (kept-accepted _ s refl);
+        clears = finished.1 ∙ ap (λ k. cleared k work) counts ∙ sym (kept-accepted _ work refl);
+      }

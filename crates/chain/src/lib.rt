@@ -2,11 +2,11 @@
 // series stands in a buffer that the caller lends.
 ghost use Rattle.std.specs.Prelude.{◌≡◌, length};
 ghost use Rattle.chain.specs.Record.{recorded};
-ghost use Rattle.definition.specs.Calls.{Cycle, Length, Open};
+ghost use Rattle.definition.specs.Calls.{Cycle, Open};
 ghost use Rattle.definition.specs.Ranged.{block_length};
 ghost use Rattle.definition.specs.Reversion.{identity};
 
-use product::Measured;
+use product::Weight;
 
 // A chain record.
 #[repr(C)]
@@ -26,14 +26,13 @@ pub struct Opened {
     pub chain: Chain,
 }
 
-// What a cycle answers, with the record that it leaves; the length is the effective length (N5) of the running series.
+// What a cycle answers, with the record that it leaves.
 #[repr(C)]
 #[derive(Clone, Copy)]
 pub struct Cycled {
     pub number: u32,
     pub weight: u64,
     pub chain: Chain,
-    pub length: usize,
 }
 
 // The whole buffer becomes x modulo x^n, n being its count.
@@ -86,9 +85,8 @@ impl Chain {
         running: &mut [u32],
         work: &mut [u32],
     ) -> Cycled
-        ensures cycle { Cycle route b (recorded self) list.now running.old running.new
+        ensures { Cycle route b (recorded self) list.now running.old running.new
             work.old work.new result.number result.weight (recorded result.chain) }
-        ensures length { Length result.number running.new result.length }
     {
         let p = self.modulus;
         let n = self.order;
@@ -98,11 +96,10 @@ impl Chain {
                 number: number,
                 weight: 0,
                 chain: self,
-                length: 0,
             };
         }
-        let measured: Measured = compose::run(route, b, p, n, running, list, work);
-        let weight = measured.weight.value();
+        let products: Weight = compose::run(route, b, p, n, running, list, work);
+        let weight = products.value();
         let places = refusal::cycle_places(n, list.len());
         route::finish(work, running, places);
         self.done += 1;
@@ -110,15 +107,13 @@ impl Chain {
             number: 0,
             weight: weight,
             chain: self,
-            length: measured.length,
         }
     }
 
     // The same, in blocks of the length where none is named.
     pub fn cycle(self, route: u32, list: &[u32], running: &mut [u32], work: &mut [u32]) -> Cycled
-        ensures cycle { Cycle route block_length (recorded self) list.now running.old running.new
+        ensures { Cycle route block_length (recorded self) list.now running.old running.new
             work.old work.new result.number result.weight (recorded result.chain) }
-        ensures length { Length result.number running.new result.length }
     {
         self.cycle_blocks(route, compose::BLOCK_LENGTH, list, running, work)
     }

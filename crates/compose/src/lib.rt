@@ -1,23 +1,23 @@
 // The call compose: f(g) modulo x^n by the route named, or a refusal.
 ghost use Rattle.std.specs.Prelude.{◌≡◌, length, ◌<◌, ◌≤◌};
-ghost use Rattle.definition.specs.Calls.{Compose, Length};
+ghost use Rattle.definition.specs.Calls.{Compose};
 ghost use Rattle.definition.specs.Prime.{Prime};
 ghost use Rattle.definition.specs.Ranged.{block_length};
 ghost use Rattle.definition.specs.Refusal.{longest_block};
 ghost use Rattle.definition.specs.Weight.{weight};
 ghost use Rattle.route.specs.Contract.{Lent, Route};
 
-use product::Measured;
+use product::Weight;
 use refusal::Answer;
 
 // The block length of route 2 where a call names none.
 pub const BLOCK_LENGTH: usize = 4;
 
 // The route of this number, route 2 in blocks of b places: f(g) modulo x^n, at place 0 of w.
-pub fn run(route: u32, b: usize, p: u32, n: usize, f: &[u32], g: &[u32], w: &mut [u32]) -> Measured
+pub fn run(route: u32, b: usize, p: u32, n: usize, f: &[u32], g: &[u32], w: &mut [u32]) -> Weight
     requires { Lent p n (length f.now) (length w.old) × Prime p × (route ≡ 2 → (0 < b) × (b ≤ longest_block)) }
     ensures { Route p n f.now g.now (weight route b p n (length f.now))
-        w.old w.new result.weight.places result.length }
+        w.old w.new result.places }
 {
     if route == 1 {
         return horner::horner(p, n, f, g, w);
@@ -31,7 +31,7 @@ pub fn run(route: u32, b: usize, p: u32, n: usize, f: &[u32], g: &[u32], w: &mut
     kinoshita_li::kinoshita_li(p, n, f, g, w)
 }
 
-// f(g) modulo x^n in `out`, with the weight of the route and the effective length of the output. Route 2 takes blocks of b places.
+// f(g) modulo x^n in `out`, with the weight of the route. Route 2 takes blocks of b places.
 pub fn compose_blocks(
     route: u32,
     b: usize,
@@ -42,26 +42,22 @@ pub fn compose_blocks(
     out: &mut [u32],
     work: &mut [u32],
 ) -> Answer
-    ensures compose { Compose route b p n f.now g.now out.old out.new
+    ensures { Compose route b p n f.now g.now out.old out.new
         work.old work.new result.number result.weight }
-    ensures length { Length result.number out.new result.length }
 {
     let number = refusal::compose(route, b, p, n, f, g, out.len(), work.len());
     if number != 0 {
         return Answer {
             number: number,
             weight: 0,
-            length: 0,
         };
     }
-    let measured = run(route, b, p, n, f, g, work);
-    let weight = measured.weight.value();
+    let weight = run(route, b, p, n, f, g, work).value();
     let places = route::work_places(n, f.len());
     route::finish(work, out, places);
     Answer {
         number: 0,
         weight: weight,
-        length: measured.length,
     }
 }
 
@@ -75,9 +71,8 @@ pub fn compose(
     out: &mut [u32],
     work: &mut [u32],
 ) -> Answer
-    ensures compose { Compose route block_length p n f.now g.now out.old out.new
+    ensures { Compose route block_length p n f.now g.now out.old out.new
         work.old work.new result.number result.weight }
-    ensures length { Length result.number out.new result.length }
 {
     compose_blocks(route, BLOCK_LENGTH, p, n, f, g, out, work)
 }

@@ -17,8 +17,6 @@
 --   Calls             what each call promises
 --   Text              decimal digits and the two printed forms
 --   Job               the job file
---   Determined        a theorem: what a call promises determines its whole answer
---   TableDetermined   a theorem: the rule of the table determines the table
 pub mod Lists
 pub mod Substitution
 pub mod Ranged
@@ -36,5 +34,3 @@ pub mod Running
 pub mod Calls
 pub mod Text
 pub mod Job
-pub mod Determined
-pub mod TableDetermined

@@ -17,7 +17,7 @@
 --   thirds                 they give what `weave` requires
 --   woven-product          and the three, woven, are the product
 -- Assumes nothing.
-use Rattle.std.specs.Prelude.{ℕ, ◌+◌, ◌-◌, ◌*◌, ◌/◌, ◌%◌, ◌<◌, ◌≤◌, ◌^◌, Bool, false, true, List, ◌≡◌, refl, length}
+use Rattle.std.specs.Prelude.{ℕ, ◌+◌, ◌*◌, ◌/◌, ◌<◌, ◌≤◌, ◌^◌, Bool, false, true, List, ◌≡◌, length}
 use Rattle.std.proofs.Common.{mul-add, mul_comm, mul-le-mul_left, mul-le-mul_right, mul_left_comm, arith, ap, ◌∙◌}
 use Rattle.std.proofs.Math.Nat.{mod-lt}
 use Rattle.std.proofs.Math.Path.{sym}

@@ -1,5 +1,7 @@
 // Products of parts of polynomials in x and y modulo p: by blocks (`grids`), or, of long parts, by Karatsuba's rule. The even and the odd powers of x of both
 // factors and the sums of the two give three products with half the places, and these are woven into the product (`double_parity`).
+#![tactic(auto)]
+
 ghost use Rattle.std.specs.Prelude.{false, ◌≡◌, ◌*◌, ◌<◌, ◌≤◌, ◌^◌};
 ghost use Rattle.grids.specs.Parts.{block_places};
 ghost use Rattle.double_karatsuba.specs.Product.{Fits, Long, Multiplied, Multiplying};

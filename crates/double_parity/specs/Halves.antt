@@ -8,17 +8,15 @@
 --   even-half odd-half folded-half   the polynomials that the three parts hold
 --   lies-even lies-odd lies-folded   they lie in the lists that they are read from
 -- Assumes nothing.
-use Rattle.std.specs.Prelude.{ℕ, ◌+◌, ◌-◌, ◌*◌, ◌/◌, ◌%◌, ◌<◌, ◌≤◌, ◌^◌, Bool, List, ◌≡◌, ltb, length}
+use Rattle.std.specs.Prelude.{ℕ, ◌+◌, ◌-◌, ◌*◌, ◌/◌, ◌%◌, ◌<◌, ◌≤◌, ◌^◌, List, ◌≡◌, ltb, length}
 use Rattle.std.proofs.Math.Decide.{dec_lt}
 use Rattle.std.proofs.Math.Nat.{add-zero, zero-mod}
-use Rattle.std.proofs.Common.{mul-le-mul_right, mul-one, suc-mul, zero-add, arith, sym, ◌∙◌}
+use Rattle.std.proofs.Common.{mul-le-mul_right, suc-mul, arith, sym}
 use borrow.Author.Tests.{le-ltb, lt-ltb}
 use Rattle.std.proofs.Math.Bool.{cond}
 use Rattle.std.proofs.Math.Path.{refl, fun_ext}
 use Rattle.std.proofs.lemmas.List.Edits.{sets}
 use Rattle.std.proofs.Math.Seq.{length-sets}
-use Rattle.algebra.specs.Rows.{coefficient-plane, length-plane}
-use Rattle.buffer.specs.Written.{get_or-sets-inside}
 use Rattle.definition.specs.KinoshitaLi.{even_part, plane}
 use Rattle.definition.specs.Lists.{coefficient}
 use Rattle.grids.specs.Parts.{Lies, grid_at}

@@ -1,5 +1,7 @@
 // The parts of polynomials in x and y by even and odd powers of x, for Karatsuba's rule: the halves of a part and their sum, and a product that is woven from
 // three products of them. Polynomials stand in blocks (`grids`).
+#![tactic(auto)]
+
 ghost use Rattle.std.specs.Prelude.{false, ◌≡◌, ◌+◌, ◌*◌, ◌%◌, ◌<◌, ◌≤◌, ◌^◌, length};
 ghost use Rattle.std.proofs.lemmas.List.Edits.{sets};
 ghost use Rattle.definition.specs.KinoshitaLi.{plane};

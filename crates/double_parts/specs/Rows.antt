@@ -12,9 +12,9 @@
 --   half-positive half-size half-near   half of r, rounded up
 --   blocks-few             the places that they take in blocks, where the product of both directions is at most s²
 -- Assumes nothing.
-use Rattle.std.specs.Prelude.{ℕ, ◌+◌, ◌-◌, ◌*◌, ◌/◌, ◌%◌, ◌<◌, ◌≤◌, ◌^◌, Bool, false, true, List, ◌≡◌, ltb, length}
+use Rattle.std.specs.Prelude.{ℕ, ◌+◌, ◌-◌, ◌*◌, ◌/◌, ◌<◌, ◌≤◌, ◌^◌, Bool, false, true, List, ◌≡◌, ltb, length}
 use Rattle.std.proofs.Math.Decide.{dec_lt}
-use Rattle.std.proofs.Common.{add-mul, mul-add, mul_comm, mul-le-mul, mul-le-mul_left, mul-le-mul_right, one-mul, suc-mul, zero-add, sym, ◌∙◌}
+use Rattle.std.proofs.Common.{add-mul, mul-add, mul_comm, mul-le-mul, mul-le-mul_left, mul-le-mul_right, one-mul, suc-mul, sym, ◌∙◌}
 use Rattle.std.proofs.Math.Nat.{add-zero}
 use native.Mathlib.Omega.{arith, by_contra}
 use borrow.Author.Tests.{le-ltb, lt-ltb, ltb-false, ltb-true}

@@ -1,4 +1,6 @@
 // The even and the odd powers of x of polynomials in rows of a lent buffer, as parts, and rows of a product of two of them.
+#![tactic(auto)]
+
 ghost use Rattle.std.specs.Prelude.{◌≡◌};
 ghost use Rattle.double_parts.specs.Rows.{every_second, results_of};
 

@@ -1,7 +1,7 @@
 // When two answers are equal (demand 3): two calls, each of compose or of a cycle, each with its own buffers, made one after the other,
 // and the claim about what they leave. The claim and its proof for any two calls stand in the crate `two_calls`.
 ghost use Rattle.chain.specs.Record.{recorded};
-ghost use Rattle.definition.specs.Calls.{Compose, Cycle, Length};
+ghost use Rattle.definition.specs.Calls.{Compose, Cycle};
 ghost use Rattle.two_calls.specs.TwoCalls.{Equality};
 
 use chain::{Chain, Cycled};
@@ -49,10 +49,8 @@ pub fn compose_and_compose(
 ) -> ComposedTwice
     ensures compose { Compose route1 b1 p1 n1 f1.now g1.now out1.old out1.new
         work1.old work1.new result.first.number result.first.weight }
-    ensures length { Length result.first.number out1.new result.first.length }
     ensures compose_2 { Compose route2 b2 p2 n2 f2.now g2.now out2.old out2.new
         work2.old work2.new result.second.number result.second.weight }
-    ensures length_2 { Length result.second.number out2.new result.second.length }
     ensures equality { Equality result.first.number p1 n1 f1.now g1.now out1.new
         result.second.number p2 n2 f2.now g2.now out2.new }
 {
@@ -83,10 +81,8 @@ pub fn compose_and_cycle(
 ) -> ComposedAndCycled
     ensures compose { Compose route1 b1 p1 n1 f1.now g1.now out1.old out1.new
         work1.old work1.new result.first.number result.first.weight }
-    ensures length { Length result.first.number out1.new result.first.length }
     ensures cycle { Cycle route2 b2 (recorded chain2) list2.now running2.old running2.new
         work2.old work2.new result.second.number result.second.weight (recorded result.second.chain) }
-    ensures length_2 { Length result.second.number running2.new result.second.length }
     ensures equality { Equality result.first.number p1 n1 f1.now g1.now out1.new
         result.second.number chain2.modulus chain2.order
         running2.old list2.now running2.new }
@@ -116,10 +112,8 @@ pub fn cycle_and_cycle(
 ) -> CycledTwice
     ensures cycle { Cycle route1 b1 (recorded chain1) list1.now running1.old running1.new
         work1.old work1.new result.first.number result.first.weight (recorded result.first.chain) }
-    ensures length { Length result.first.number running1.new result.first.length }
     ensures cycle_2 { Cycle route2 b2 (recorded chain2) list2.now running2.old running2.new
         work2.old work2.new result.second.number result.second.weight (recorded result.second.chain) }
-    ensures length_2 { Length result.second.number running2.new result.second.length }
     ensures equality { Equality result.first.number chain1.modulus chain1.order
         running1.old list1.now running1.new
         result.second.number chain2.modulus chain2.order

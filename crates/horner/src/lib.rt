@@ -7,14 +7,14 @@ ghost use Rattle.horner.specs.Steps.{Taken};
 ghost use Rattle.product.specs.Single.{Multiplied, Operands};
 ghost use Rattle.route.specs.Contract.{Lent, Route};
 
-use product::{Measured, Weight};
+use product::Weight;
 
 // (a) ans := ans g. The n places from t on become S G modulo p, cut to n places, where S and G are the n places from s and from b on.
 fn step_a_multiply(p: u32, n: usize, w: &mut [u32], s: usize, b: usize, t: usize) -> Weight
     requires { Operands p n s b t w.old }
     ensures { Multiplied p n s b t w.old w.new result.places }
 {
-    product::multiply(p, n, w, s, b, t).weight
+    product::multiply(p, n, w, s, b, t)
 }
 
 // (b) ans := ans + c. To place t, the constant term of the series there, c is added modulo p.
@@ -57,16 +57,13 @@ pub fn horner_part(p: u32, n: usize, f: &[u32], w: &mut [u32], b: usize, t: usiz
 }
 
 // Route 1: f(g) modulo x^n, at place 0 of w.
-pub fn horner(p: u32, n: usize, f: &[u32], g: &[u32], w: &mut [u32]) -> Measured
+pub fn horner(p: u32, n: usize, f: &[u32], g: &[u32], w: &mut [u32]) -> Weight
     requires { Lent p n (length f.now) (length w.old) }
     ensures { Route p n f.now g.now (horner_weight n (length f.now))
-        w.old w.new result.weight.places result.length }
+        w.old w.new result.places }
 {
     route::put(g, n, w, 0);
     let weight = horner_part(p, n, f, w, 0, n);
-    let length = route::deliver(w, n, n);
-    Measured {
-        weight: weight,
-        length: length,
-    }
+    buffer::copy_part(w, n, 0, n);
+    weight
 }

@@ -2,7 +2,7 @@
 // theorems over the calls stand in the crate `sequence`.
 ghost use Rattle.std.specs.Prelude.{ℕ, List, ◌≡◌};
 ghost use Rattle.chain.specs.Record.{recorded};
-ghost use Rattle.definition.specs.Calls.{Compose, Cycle, Length, Reverse};
+ghost use Rattle.definition.specs.Calls.{Compose, Cycle, Reverse};
 ghost use Rattle.sequence.specs.Cut.{Joined};
 
 use chain::{Chain, Cycled};
@@ -30,7 +30,6 @@ pub fn join(
 ) -> Answer
     ensures compose { Compose route b p n first.now second.now out.old out.new
         work.old work.new result.number result.weight }
-    ensures length { Length result.number out.new result.length }
     ensures joined { Joined p n first.now second.now result.number out.new }
 {
     compose::compose_blocks(route, b, p, n, first, second, out, work)
@@ -53,13 +52,10 @@ pub fn undo(
     ensures by_index { (running1 : List ℕ) × (work1 : List ℕ) × (work2 : List ℕ)
         × Reverse chain.modulus chain.order list.now reverse.old reverse.new
         work.old work1 result.reversed.number result.reversed.weight
-        × Length result.reversed.number reverse.new result.reversed.length
         × Cycle route1 b1 (recorded chain) list.now running.old running1
         work1 work2 result.cycled.number result.cycled.weight (recorded result.cycled.chain)
-        × Length result.cycled.number running1 result.cycled.length
         × Cycle route2 b2 (recorded result.cycled.chain) reverse.new running1 running.new
-        work2 work.new result.undone.number result.undone.weight (recorded result.undone.chain)
-        × Length result.undone.number running.new result.undone.length }
+        work2 work.new result.undone.number result.undone.weight (recorded result.undone.chain) }
     ensures running_unchanged { result.reversed.number ≡ 0 → result.cycled.number ≡ 0 → result.undone.number ≡ 0 → running.new ≡ running.old }
 {
     let reversed = reversion::reverse(chain.modulus, chain.order, list, reverse, work);

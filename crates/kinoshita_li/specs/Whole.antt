@@ -9,7 +9,7 @@
 --   places-inside rows_inside fraction-lent some-done   the route for any other
 -- Assumes nothing.
 use Prim.Native.Nat.{ℕ, ◌+◌, ◌-◌, ◌*◌, ◌<◌, ◌≤◌, min}
-use Rattle.std.proofs.Common.{le_of_eq, le_refl, mul-le-mul_right, one-mul, add-one, arith, eq-eqb, ne_eqb, ap, sym, ◌∙◌, length-append, length-drop, drop_at, length-take-le}
+use Rattle.std.proofs.Common.{le_of_eq, le_refl, mul-le-mul_right, one-mul, add-one, arith, eq-eqb, ne_eqb, sym, ◌∙◌, length-append, length-drop, drop_at, length-take-le}
 use Rattle.std.proofs.Math.Nat.{zero-add, zero-mod}
 use mathlib.Core.List.{List, ◌++◌}
 use Rattle.std.specs.Prelude.{◌≡◌, refl, take, drop}
@@ -22,7 +22,7 @@ use Rattle.algebra.specs.KinoshitaLiLists.{levels-list-composed}
 use Rattle.algebra.specs.Lists.{coefficient_beyond, length-tabulate}
 use Rattle.algebra.specs.Rows.{length-plane}
 use Rattle.definition.specs.KinoshitaLi.{denominator, plane}
-use Rattle.definition.specs.Lists.{effective_length, tabulate}
+use Rattle.definition.specs.Lists.{tabulate}
 use Rattle.definition.specs.Refusal.{compose_work, limit}
 use Rattle.definition.specs.Substitution.{composed, constant}
 use Rattle.definition.specs.Weight.{halvings, kinoshita_li_weight}
@@ -81,21 +81,16 @@ module _ {p n q : ℕ} {f w : List ℕ} (lent : FractionLent p n q f w) where
       Q = plane n (q + 1) (denominator p g)
 
 pub none_done : {p n : ℕ} (f g w : List ℕ) {after : List ℕ} → Lent p n (length f) (length w) → length f ≡ 0
-    → after ≡ sets w 0 (tabulate n (constant 0)) → {length' : ℕ} → length' ≡ effective_length (segment after 0 n)
-    → Route p n f g (kinoshita_li_weight n (length f)) w after 0 length'
+    → after ≡ sets w 0 (tabulate n (constant 0)) → Route p n f g (kinoshita_li_weight n (length f)) w after 0
 unfolding kinoshita_li_weight
-none_done {p} {n} f g w {after} lent empty put measured = record {
-  value = delivered;
-  measures = measured ∙ ap effective_length delivered;
+none_done {p} {n} f g w lent empty put = record {
+  value = rw put (written-table w 0 (constant 0) n (omega (arith, lent.enough))) ∙ zeros;
   sum = rw (eq-eqb (length f) 0 empty);
   within = rw put (within-sets w 0 (tabulate n (constant 0)) (le_refl 0) (rw length-tabulate (omega arith)));
 }
   where
     zeros : tabulate n (constant 0) ≡ composed p n f g
     zeros = rw (coefficient_beyond f 0 (omega arith), zero-mod) at (composed-constant p n f g (omega arith))
-
-    delivered : segment after 0 n ≡ composed p n f g
-    delivered = rw put (written-table w 0 (constant 0) n (omega (arith, lent.enough))) ∙ zeros
 
 module _ {p n : ℕ} (f w : List ℕ) {places : ℕ} (lent : Lent p n (length f) (length w)) (counted : places ≡ compose_work n (length f)) where
   pub places-inside : places ≤ length w
@@ -118,13 +113,12 @@ module _ {p n : ℕ} (f w : List ℕ) {places : ℕ} (lent : Lent p n (length f)
     }
 
     -- l is what the places lent came back as
-    pub some-done : {g l after : List ℕ} {result length' : ℕ} → length l ≡ places → Fraction p n q f g l result
+    pub some-done : {g l after : List ℕ} {result : ℕ} → length l ≡ places → Fraction p n q f g l result
         → after ≡ sets (l ++ drop places w) 0 (segment (l ++ drop places w) ((q + 1) * n) n)
-        → length' ≡ effective_length (segment after 0 n)
-        → Route p n f g (kinoshita_li_weight n (length f)) w after result length'
-    some-done {l} size fraction moved measured =
+        → Route p n f g (kinoshita_li_weight n (length f)) w after result
+    some-done {l} size fraction moved =
         route_moved ((q + 1) * n) (within_wider (le_refl 0) (omega (arith, counted)) within) (kept ∙ fraction.value) fraction.sum
-        (omega (arith, within.size, rows_inside, places-inside)) moved measured
+        (omega (arith, within.size, rows_inside, places-inside)) moved
       where
         within : Within 0 places w (l ++ drop places w)
         within = record {

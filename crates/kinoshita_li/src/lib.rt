@@ -4,7 +4,7 @@ ghost use Rattle.definition.specs.Weight.{kinoshita_li_weight};
 ghost use Rattle.kinoshita_li.specs.Whole.{Fraction, FractionLent};
 ghost use Rattle.route.specs.Contract.{Lent, Route};
 
-use product::{Measured, Weight};
+use product::Weight;
 
 // Leaves f(g) modulo x^n behind the q + 1 rows of Q = 1 - y g. All of w is used.
 fn fraction(p: u32, n: usize, q: usize, f: &[u32], g: &[u32], w: &mut [u32]) -> Weight
@@ -16,25 +16,19 @@ fn fraction(p: u32, n: usize, q: usize, f: &[u32], g: &[u32], w: &mut [u32]) -> 
 }
 
 // Route 4: f(g) modulo x^n, at place 0 of w.
-pub fn kinoshita_li(p: u32, n: usize, f: &[u32], g: &[u32], w: &mut [u32]) -> Measured
+pub fn kinoshita_li(p: u32, n: usize, f: &[u32], g: &[u32], w: &mut [u32]) -> Weight
     requires { Lent p n (length f.now) (length w.old) }
     ensures { Route p n f.now g.now (kinoshita_li_weight n (length f.now))
-        w.old w.new result.weight.places result.length }
+        w.old w.new result.places }
 {
     let m = f.len();
     if m == 0 {
         route::put_constant(0, n, w, 0);
-        return Measured {
-            weight: Weight::none(),
-            length: buffer::effective_part(w, 0, n),
-        };
+        return Weight::none();
     }
     let places = route::work_places(n, m);
     let q = number::smaller(1, m - 1);
     let weight = fraction(p, n, q, f, g, &mut w[..places]);
-    let length = route::deliver(w, (q + 1) * n, n);
-    Measured {
-        weight: weight,
-        length: length,
-    }
+    buffer::copy_part(w, (q + 1) * n, 0, n);
+    weight
 }

@@ -87,7 +87,7 @@ fn graeffe(p: u32, r: usize, w: &mut [u32], s: Layout) -> Weight
         count: b.count,
     };
     bivariate::opposite(p, r, w, a, b.at);
-    let places = product::multiply_opposite(p, r, w, a, x).weight;
+    let places = product::multiply_opposite(p, r, w, a, x);
     bivariate::even_part(r, s.half, w, x, s.rest);
     places
 }
@@ -114,7 +114,6 @@ fn expand(p: u32, r: usize, w: &mut [u32], s: Layout) -> Weight
         s.window,
         t,
     )
-    .weight
 }
 
 // The last level, at order 1: leaves the powers of y from d to m - 1 of P / Q(0, y) behind the Q in the first q + 1 places.

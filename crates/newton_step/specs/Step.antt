@@ -65,8 +65,8 @@ module _ {p : ℕ} (g h w : List ℕ) (lent : Lent p (length h) (length g) (leng
   pub value_lent : Lent p (length h) (length (take m g)) (length w)
   value_lent = lent_less lent.positive (le_refl (length h)) few lent
 
-  pub value-put : {after : List ℕ} {weight result length' : ℕ} → coefficient h 0 ≡ 0 → m ≡ min (length h) (length g)
-      → Route p (length h) (take m g) h weight w after result length' → ValuePut p g h w after
+  pub value-put : {after : List ℕ} {weight result : ℕ} → coefficient h 0 ≡ 0 → m ≡ min (length h) (length g)
+      → Route p (length h) (take m g) h weight w after result → ValuePut p g h w after
   unfolding coefficient
   value-put constant-free cut route = record {
     value =

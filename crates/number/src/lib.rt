@@ -1,5 +1,6 @@
 // Counts: the smaller of two, a difference that stops at 0, a quotient rounded up, and the number of halvings.
 #![tactic(auto)]
+
 ghost use Rattle.std.specs.Prelude.{◌≡◌, ◌+◌, ◌-◌, ◌<◌, ◌^◌, min};
 ghost use Rattle.definition.specs.Lists.{ceil_div};
 ghost use Rattle.definition.specs.Weight.{halvings};

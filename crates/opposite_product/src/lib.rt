@@ -1,5 +1,7 @@
 // a(x, y) a(-x, y) modulo p, where a stands in rows of a lent buffer, from the squares of its even and its odd part (`grids`, `double_karatsuba`): only even powers of x do not
 // vanish. The rows are read before the target is written.
+#![tactic(auto)]
+
 ghost use Rattle.std.specs.Prelude.{◌≡◌, ◌*◌, ◌≤◌};
 ghost use Rattle.std.proofs.lemmas.List.Edits.{sets};
 ghost use Rattle.definition.specs.KinoshitaLi.{plane};

@@ -30,7 +30,7 @@ fn step_square(p: u32, n: usize, w: &mut [u32], s: usize, t: usize) -> Weight
     requires { Operands p n s s t w.old }
     ensures { Multiplied p n s s t w.old w.new result.places }
 {
-    product::multiply(p, n, w, s, s, t).weight
+    product::multiply(p, n, w, s, s, t)
 }
 
 // G := G g. The n places from t on become S g modulo p, cut to n places, where S are those from s on and g the first n.
@@ -38,7 +38,7 @@ fn step_multiply(p: u32, n: usize, w: &mut [u32], s: usize, t: usize) -> Weight
     requires { Operands p n s 0 t w.old }
     ensures { Multiplied p n s 0 t w.old w.new result.places }
 {
-    product::multiply(p, n, w, s, 0, t).weight
+    product::multiply(p, n, w, s, 0, t)
 }
 
 // The next binary digit of the exponent is taken: a squaring, and where the digit is 1 a product with g. So many products are due, these among them.

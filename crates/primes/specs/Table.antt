@@ -11,7 +11,7 @@ use Rattle.std.specs.Prelude.{ℕ, suc, ◌*◌, ◌<◌, ◌≤◌, get_or, tru
 use Rattle.std.proofs.Common.{lit≤, arith}
 use Rattle.definition.specs.Prime.{Prime}
 use Rattle.definition.specs.PrimeTable.{TableRule, table_bound, prime_table}
-use Rattle.definition.specs.TableDetermined.{table-rule_determined}
+use Rattle.definition.proofs.TableDetermined.{table-rule_determined}
 use Rattle.primes.specs.Member.{member, member-holds}
 use Rattle.primes.specs.Sieve.{
   Next,

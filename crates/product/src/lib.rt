@@ -1,8 +1,7 @@
-// Cut products modulo p, on parts of one lent buffer. Each gives back the number of places that it is cut to, as a weight, and the effective length
-// of what it wrote. Only this crate makes weights: a route's weight can then be nothing but a sum of what products gave back.
-ghost use Rattle.std.specs.Prelude.{◌≡◌, ◌+◌, ◌*◌, ◌<◌, ◌≤◌, ◌^◌, length};
-ghost use Rattle.buffer.specs.Segments.{segment};
-ghost use Rattle.definition.specs.Lists.{ceil_div, effective_length};
+// Cut products modulo p, on parts of one lent buffer. Each gives back the number of places that it is cut to, as a weight, which only this crate
+// makes: a route's weight can then be nothing but a sum of what products gave back.
+ghost use Rattle.std.specs.Prelude.{◌≡◌, ◌+◌, ◌*◌, ◌<◌, ◌≤◌, ◌^◌};
+ghost use Rattle.definition.specs.Lists.{ceil_div};
 ghost use Rattle.opposite_product.specs.Opposite.{OppositeRoom};
 ghost use Rattle.spread_product.specs.Spread.{SpreadRoom};
 ghost use Rattle.product.specs.Double.{MultipliedOpposite, MultipliedRows};
@@ -47,64 +46,43 @@ impl Weight {
     }
 }
 
-// What a product gives back, and what a route does: its weight, and the effective length (N5) of what it wrote.
-#[derive(Clone, Copy)]
-pub struct Measured {
-    pub weight: Weight,
-    pub length: usize,
-}
-
-// What is given back of a product cut to n places, which stand in w from t on.
-fn measure(w: &[u32], t: usize, n: usize) -> Measured
-    requires { t + n ≤ length w.now }
-    ensures places_value { result.weight.places ≡ n }
-    ensures length_value { result.length ≡ effective_length (segment w.now t n) }
-{
-    let length = buffer::effective_part(w, t, n);
-    Measured {
-        weight: Weight { places: n as u64 },
-        length: length,
-    }
-}
-
 // The n places from t on become they + A B modulo p, cut to n places, where A and B are the n places from a and from b on.
-pub fn multiply_add(p: u32, n: usize, w: &mut [u32], a: usize, b: usize, t: usize) -> Measured
+pub fn multiply_add(p: u32, n: usize, w: &mut [u32], a: usize, b: usize, t: usize) -> Weight
     requires { Operands p n a b t w.old }
-    ensures multiplied_add { MultipliedAdd p n a b t w.old w.new result.weight.places }
-    ensures length_value { result.length ≡ effective_length (segment w.new t n) }
+    ensures { MultipliedAdd p n a b t w.old w.new result.places }
 {
-    short_product::add_product(p, n, w, a, b, t);
-    measure(w, t, n)
+    single_product::add_product(p, n, w, a, b, t);
+    Weight { places: n as u64 }
 }
 
 // The n places from t on become A B modulo p, cut to n places, where A and B are the n places from a and from b on.
-pub fn multiply(p: u32, n: usize, w: &mut [u32], a: usize, b: usize, t: usize) -> Measured
+pub fn multiply(p: u32, n: usize, w: &mut [u32], a: usize, b: usize, t: usize) -> Weight
     requires { Operands p n a b t w.old }
-    ensures multiplied { Multiplied p n a b t w.old w.new result.weight.places }
-    ensures length_value { result.length ≡ effective_length (segment w.new t n) }
+    ensures { Multiplied p n a b t w.old w.new result.places }
 {
     buffer::clear_part(w, t, n);
     multiply_add(p, n, w, a, b, t)
 }
 
-// The same of a product whose rows stand at t, r places in each: the flat list of them is measured.
-fn measure_rows(w: &[u32], r: usize, t: Rows) -> Measured
-    requires { t.at + r * t.count ≤ length w.now }
-    ensures places_value { result.weight.places ≡ r * t.count }
-    ensures length_value { result.length ≡ effective_length (segment w.now t.at (r * t.count)) }
+// The places of the rows at t, r in each.
+fn places_of(r: usize, t: Rows) -> Weight
+    requires { r * t.count < 2 ^ 64 }
+    ensures { result.places ≡ r * t.count }
 {
-    measure(w, t.at, r * t.count)
+    let places = r * t.count;
+    Weight {
+        places: places as u64,
+    }
 }
 
 // The rows at t become the first rows of a(x, y) a(-x, y) modulo p and below x^r, where a stands in rows of r places. Its odd powers of x vanish, and only
 // the even ones are computed.
-pub fn multiply_opposite(p: u32, r: usize, w: &mut [u32], a: Rows, t: Rows) -> Measured
+pub fn multiply_opposite(p: u32, r: usize, w: &mut [u32], a: Rows, t: Rows) -> Weight
     requires { OppositeRoom p r a.at a.count t.at t.count w.old × (a.count * ceil_div r 2 ≤ 4096) }
-    ensures multiplied_opposite { MultipliedOpposite p r a t w.old w.new result.weight.places }
-    ensures length_value { result.length ≡ effective_length (segment w.new t.at (r * t.count)) }
+    ensures { MultipliedOpposite p r a t w.old w.new result.places }
 {
     opposite_product::opposite(p, r, w, a.at, a.count, t.at, t.count);
-    measure_rows(w, r, t)
+    places_of(r, t)
 }
 
 // The rows at t become rows low, low + 1 and on of A B modulo p and below x^r, where A and B stand in rows of r places at a and at b, and A has no
@@ -117,11 +95,10 @@ pub fn multiply_spread(
     b: Rows,
     low: usize,
     t: Rows,
-) -> Measured
+) -> Weight
     requires { SpreadRoom p r a.at a.count b.at b.count low t.at t.count w.old × (b.count * ceil_div r 2 ≤ 4096) }
-    ensures multiplied_rows { MultipliedRows p r a b low t w.old w.new result.weight.places }
-    ensures length_value { result.length ≡ effective_length (segment w.new t.at (r * t.count)) }
+    ensures { MultipliedRows p r a b low t w.old w.new result.places }
 {
     spread_product::spread(p, r, w, a.at, a.count, b.at, b.count, low, t.at, t.count);
-    measure_rows(w, r, t)
+    places_of(r, t)
 }

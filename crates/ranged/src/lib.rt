@@ -11,7 +11,7 @@ ghost use Rattle.product.specs.Single.{Operands};
 ghost use Rattle.ranged.specs.Joins.{SpanOperands, SpanPart};
 ghost use Rattle.ranged.specs.Neighbours.{Joined};
 
-use product::{Measured, Weight};
+use product::Weight;
 
 // The number of rounds in which m places, in blocks of b, are joined.
 fn rounds(m: usize, b: usize) -> usize
@@ -55,7 +55,7 @@ fn join(p: u32, n: usize, w: &mut [u32], power: usize, t: usize) -> Weight
 {
     let beside = t + n;
     let free = t + 2 * n;
-    let places = product::multiply(p, n, w, beside, power, free).weight;
+    let places = product::multiply(p, n, w, beside, power, free);
     route::add_part(p, n, w, free, t);
     places
 }
@@ -92,19 +92,16 @@ fn compose_span(
 }
 
 // Route 2 in blocks of b places: f(g) modulo x^n, at place 0 of w.
-pub fn ranged(p: u32, n: usize, b: usize, f: &[u32], g: &[u32], w: &mut [u32]) -> Measured
+pub fn ranged(p: u32, n: usize, b: usize, f: &[u32], g: &[u32], w: &mut [u32]) -> Weight
     requires { Lent p n (length f.now) (length w.old) × ((0 < b) × (b ≤ longest_block)) }
     ensures { Route p n f.now g.now (ranged_weight b n (length f.now))
-        w.old w.new result.weight.places result.length }
+        w.old w.new result.places }
 {
     let levels = rounds(f.len(), b);
     let t = (levels + 1) * n;
     route::put(g, n, w, 0);
     let formed = powers::powers(p, n, b, levels, w);
     let joined = compose_span(p, n, b, f, levels, 0, w, t);
-    let length = route::deliver(w, t, n);
-    Measured {
-        weight: formed.plus(joined),
-        length: length,
-    }
+    buffer::copy_part(w, t, 0, n);
+    formed.plus(joined)
 }

@@ -23,13 +23,12 @@ const CYCLE_WORK_PER_POWER: usize = 144;
 // The most cycles of a chain.
 const MOST_CYCLES: u32 = 64;
 
-// What compose and reverse answer; the length is the effective length (N5) of the output.
+// What compose and reverse answer.
 #[repr(C)]
 #[derive(Clone, Copy)]
 pub struct Answer {
     pub number: u32,
     pub weight: u64,
-    pub length: usize,
 }
 
 // The places of work that a cycle of m coefficients asks for.

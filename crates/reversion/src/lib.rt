@@ -1,6 +1,6 @@
 // Reversion by Newton's iteration: h without constant term such that g(h) is x modulo x^n.
 ghost use Rattle.std.specs.Prelude.{◌≡◌, ◌<◌, length};
-ghost use Rattle.definition.specs.Calls.{Length, Reverse};
+ghost use Rattle.definition.specs.Calls.{Reverse};
 ghost use Rattle.newton_step.specs.Step.{Reversed};
 ghost use Rattle.reversion.specs.Iteration.{Reversible};
 ghost use Rattle.reversion.specs.Start.{started};
@@ -37,16 +37,14 @@ fn newton(p: u32, g: &[u32], h: &mut [u32], w: &mut [u32])
 
 // The reverse series of g: h without constant term such that g(h) is x modulo x^n, in `out`.
 pub fn reverse(p: u32, n: usize, g: &[u32], out: &mut [u32], work: &mut [u32]) -> Answer
-    ensures reverse { Reverse p n g.now out.old out.new work.old work.new
+    ensures { Reverse p n g.now out.old out.new work.old work.new
         result.number result.weight }
-    ensures length { Length result.number out.new result.length }
 {
     let number = refusal::reverse(p, n, g, out.len(), work.len());
     if number != 0 {
         return Answer {
             number: number,
             weight: 0,
-            length: 0,
         };
     }
     newton(p, g, out, work);
@@ -54,6 +52,5 @@ pub fn reverse(p: u32, n: usize, g: &[u32], out: &mut [u32], work: &mut [u32]) -
     Answer {
         number: 0,
         weight: 0,
-        length: buffer::effective_length(out),
     }
 }

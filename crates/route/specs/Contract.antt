@@ -1,4 +1,4 @@
--- The contract of a route: f(g) modulo x^n at place 0 of the work buffer, with the weight of its rule and the effective length.
+-- The contract of a route: f(g) modulo x^n at place 0 of the work buffer, with the weight of its rule.
 --
 --   Lent p n m work      what every route requires of the modulus and the order, and of the counts of the outer list and of the work buffer
 --   lent_less            it holds of a smaller order and a shorter outer list too
@@ -7,18 +7,18 @@
 --   copied_segment       a segment that is copied over a whole list
 --   put-within           a route that puts g at place 0, and then works after it, works within the places lent
 --   put-composed         f composed with what `put` wrote is f composed with g
---   route_moved          a route that leaves f(g) at place t of the work buffer, and then delivers it
---   route_finished       a route, and then `finish`: the value in the output, the work buffer cleared, and the length that of the output
+--   route_moved          a route that leaves f(g) at place t of the work buffer, and then moves it to place 0
+--   route_finished       a route, and then `finish`: the value in the output, and the work buffer cleared
 -- Assumes nothing.
 use Rattle.std.specs.Prelude.{ℕ, ◌+◌, ◌<◌, ◌≤◌, ◌≡◌, List, ◌++◌, length, take, drop}
-use Rattle.std.proofs.Common.{le_refl, zero-add, arith, ap, sym, ◌∙◌, append-nil, length-take-le}
+use Rattle.std.proofs.Common.{le_refl, zero-add, arith, ◌∙◌, append-nil, length-take-le}
 use Rattle.std.proofs.lemmas.List.Edits.{sets}
 use Rattle.std.proofs.Math.Seq.{drop-length}
 use Rattle.algebra.specs.Composition.{composed_agree}
 use Rattle.algebra.specs.Lists.{coefficient-tabulate, length-tabulate}
 use Rattle.buffer.specs.Written.{length_part}
 use Rattle.definition.specs.Answer.{cleared}
-use Rattle.definition.specs.Lists.{coefficient, effective_length, tabulate}
+use Rattle.definition.specs.Lists.{coefficient, tabulate}
 use Rattle.definition.specs.Refusal.{compose_work, limit}
 use Rattle.definition.specs.Substitution.{composed}
 use Rattle.buffer.specs.Segments.{segment}
@@ -41,10 +41,9 @@ lent_less positive less short lent = record {
   enough = omega (arith, lent.enough);
 }
 
-pub record Route (p n : ℕ) (f g : List ℕ) (weight : ℕ) (before after : List ℕ) (result length' : ℕ) : Type 0 where
+pub record Route (p n : ℕ) (f g : List ℕ) (weight : ℕ) (before after : List ℕ) (result : ℕ) : Type 0 where
   pub value : segment after 0 n ≡ composed p n f g
   pub sum : result ≡ weight
-  pub measures : length' ≡ effective_length (composed p n f g)
   pub within : Within 0 (compose_work n (length f)) before after
 
 pub record Finished (k : ℕ) (before after out out' : List ℕ) : Type 0 where
@@ -55,34 +54,25 @@ pub copied_segment : (w out : List ℕ) → length out ≤ length w
     → take (length out) w ++ drop (length (take (length out) w)) out ≡ segment w 0 (length out)
 copied_segment w out h = rw (length-take-le (length out) w h, drop-length, append-nil)
 
-pub route_moved : {p n : ℕ} {f g : List ℕ} {weight : ℕ} {before then after : List ℕ} {result length' : ℕ} (t : ℕ)
+pub route_moved : {p n : ℕ} {f g : List ℕ} {weight : ℕ} {before then after : List ℕ} {result : ℕ} (t : ℕ)
     → Within 0 (compose_work n (length f)) before then → segment then t n ≡ composed p n f g → result ≡ weight
-    → t + n ≤ length then → after ≡ sets then 0 (segment then t n) → length' ≡ effective_length (segment after 0 n)
-    → Route p n f g weight before after result length'
-route_moved {p} {n} {f} {g} {then = then} {after = after} t within value sum fits moved measured = record {
-  value = delivered;
+    → t + n ≤ length then → after ≡ sets then 0 (segment then t n) → Route p n f g weight before after result
+route_moved {n = n} {then = then} t within value sum fits moved = record {
+  value = rw moved (segment-sets then 0 (segment then t n) n size (omega arith) ∙ value);
   sum = sum;
-  measures = measured ∙ ap effective_length delivered;
   within = within_trans within (rw moved (within-sets then 0 (segment then t n) (le_refl 0) (rw size (omega arith))));
 }
   where
     size : length (segment then t n) ≡ n
     size = length_part then t n fits
 
-    delivered : segment after 0 n ≡ composed p n f g
-    delivered = rw moved (segment-sets then 0 (segment then t n) n size (omega arith) ∙ value)
-
-pub route_finished : {p n : ℕ} {f g : List ℕ} {weight k : ℕ} {out out' before then after : List ℕ} {result length' : ℕ}
-    → Route p n f g weight before then result length' → compose_work n (length f) ≤ k → length out ≡ n → Finished k then after out out'
-    → (out' ≡ composed p n f g) × (after ≡ cleared k before) × (length' ≡ effective_length out')
-route_finished {p} {n} {f} {g} {out' = out'} route fits size done = (
-  written,
+pub route_finished : {p n : ℕ} {f g : List ℕ} {weight k : ℕ} {out out' before then after : List ℕ} {result : ℕ}
+    → Route p n f g weight before then result → compose_work n (length f) ≤ k → length out ≡ n → Finished k then after out out'
+    → (out' ≡ composed p n f g) × (after ≡ cleared k before)
+route_finished {then = then} route fits size done = (
+  done.output ∙ rw size route.value,
   done.work ∙ cleared-within (within_wider (le_refl 0) (rw (zero-add, zero-add) fits) route.within),
-  route.measures ∙ ap effective_length (sym written),
 )
-  where
-    written : out' ≡ composed p n f g
-    written = done.output ∙ rw size route.value
 
 pub put-within : {n k : ℕ} (m : ℕ) (g w : List ℕ) {u v : List ℕ} → v ≡ sets w 0 (tabulate n (coefficient g)) → Within n k v u
     → n + k ≤ compose_work n m → Within 0 (compose_work n m) w u

@@ -1,11 +1,9 @@
-// What the four routes share: lists put into the work buffer and added there, the value delivered and measured, the answer taken out, and the contract of a
-// route (specs).
+// What the four routes share: lists put into the work buffer and added there, the answer taken out of it, and the contract of a route (specs).
 #![tactic(auto)]
-
 ghost use Rattle.std.specs.Prelude.{◌≡◌, ◌+◌, ◌<◌, ◌≤◌, length};
 ghost use Rattle.std.proofs.lemmas.List.Edits.{sets};
 ghost use Rattle.buffer.specs.Segments.{segment};
-ghost use Rattle.definition.specs.Lists.{coefficient, effective_length, tabulate};
+ghost use Rattle.definition.specs.Lists.{coefficient, tabulate};
 ghost use Rattle.definition.specs.Refusal.{compose_work, limit};
 ghost use Rattle.definition.specs.Substitution.{constant, cut_sum};
 ghost use Rattle.route.specs.Contract.{Finished};
@@ -56,17 +54,6 @@ pub fn add_part(p: u32, n: usize, w: &mut [u32], s: usize, t: usize)
         w[t + k] = residue::reduced_sum(p, w[t + k], w[s + k]);
         k += 1;
     }
-}
-
-// A route's value, the n places from t on, comes to place 0. Gives its effective length: that of a route is not that of its last product, which there
-// need not be.
-pub fn deliver(w: &mut [u32], t: usize, n: usize) -> usize
-    requires { t + n ≤ length w.old }
-    ensures w_after { w.new ≡ sets w.old 0 (segment w.old t n) }
-    ensures value { result ≡ effective_length (segment w.new 0 n) }
-{
-    buffer::copy_part(w, t, 0, n);
-    buffer::effective_part(w, 0, n)
 }
 
 // Writes the first places of w into `out`, and clears the first k places of w.

@@ -1,7 +1,7 @@
 // The C interface: compose, reverse, the calls of a chain, the table of primes and rendering as C functions; compose and the cycle with a block
 // length for route 2, and without one. A slice passes as its pointer and its count.
 ghost use Rattle.chain.specs.Record.{recorded};
-ghost use Rattle.definition.specs.Calls.{Compose, Cycle, Length, Open, Render, Reverse, Table};
+ghost use Rattle.definition.specs.Calls.{Compose, Cycle, Open, Render, Reverse, Table};
 ghost use Rattle.definition.specs.Ranged.{block_length};
 
 use chain::Chain;
@@ -18,9 +18,8 @@ pub extern "C" fn ruhitapo_compose_blocks(
     out: &mut [u32],
     work: &mut [u32],
 ) -> refusal::Answer
-    ensures compose { Compose route block p n f.now g.now out.old out.new
+    ensures { Compose route block p n f.now g.now out.old out.new
         work.old work.new result.number result.weight }
-    ensures length { Length result.number out.new result.length }
 {
     compose::compose_blocks(route, block, p, n, f, g, out, work)
 }
@@ -36,9 +35,8 @@ pub extern "C" fn ruhitapo_compose(
     out: &mut [u32],
     work: &mut [u32],
 ) -> refusal::Answer
-    ensures compose { Compose route block_length p n f.now g.now out.old out.new
+    ensures { Compose route block_length p n f.now g.now out.old out.new
         work.old work.new result.number result.weight }
-    ensures length { Length result.number out.new result.length }
 {
     compose::compose(route, p, n, f, g, out, work)
 }
@@ -52,9 +50,8 @@ pub extern "C" fn ruhitapo_reverse(
     out: &mut [u32],
     work: &mut [u32],
 ) -> refusal::Answer
-    ensures reverse { Reverse p n g.now out.old out.new work.old work.new
+    ensures { Reverse p n g.now out.old out.new work.old work.new
         result.number result.weight }
-    ensures length { Length result.number out.new result.length }
 {
     reversion::reverse(p, n, g, out, work)
 }
@@ -79,10 +76,9 @@ pub extern "C" fn ruhitapo_cycle_blocks_numbers(
     running: &mut [u32],
     work: &mut [u32],
 ) -> chain::Cycled
-    ensures cycle { Cycle route block (record { modulus = modulus; order = order; done = done }) list.now
+    ensures { Cycle route block (record { modulus = modulus; order = order; done = done }) list.now
         running.old running.new work.old work.new
         result.number result.weight (recorded result.chain) }
-    ensures length { Length result.number running.new result.length }
 {
     let chain = Chain {
         modulus: modulus,
@@ -103,10 +99,9 @@ pub extern "C" fn ruhitapo_cycle_numbers(
     running: &mut [u32],
     work: &mut [u32],
 ) -> chain::Cycled
-    ensures cycle { Cycle route block_length (record { modulus = modulus; order = order; done = done }) list.now
+    ensures { Cycle route block_length (record { modulus = modulus; order = order; done = done }) list.now
         running.old running.new work.old work.new
         result.number result.weight (recorded result.chain) }
-    ensures length { Length result.number running.new result.length }
 {
     let block = compose::BLOCK_LENGTH;
     ruhitapo_cycle_blocks_numbers(modulus, order, done, route, block, list, running, work)

@@ -1,9 +1,5 @@
 -- The product by rows: what the rows add up to, and its remainders.
 --
---   Ended m n x           of the first n places of x those from m on are zero
---   whole                 none is where m is n
---   Room m n left right sums high   four lists of zeros, in which factors of m and of n places are multiplied
---   made-room             lists that are made so
 --   residue_list p n x     the first n places of x modulo p, residue_at at each place
 --   length-residue_list residue-below   they are n residues
 --   product-residues      a product of two lists modulo p is that of their residues
@@ -11,65 +7,24 @@
 --   cut-pair              two of them are factors of a product by rows
 --   cut_small cut-remainders   and the remainders of its sums are the product
 -- Assumes nothing.
-use Prim.Native.Nat.{ℕ, ◌+◌, ◌-◌, ◌%◌, ◌<◌, ◌≤◌}
+use Rattle.std.specs.Prelude.{ℕ, ◌+◌, ◌-◌, ◌%◌, ◌<◌, ◌≤◌, ◌≡◌, List, length, get_or}
 use Rattle.std.proofs.Math.Decide.{dec_lt}
-use Rattle.std.proofs.Common.{mod-lt, zero-add, arith, ◌∙◌}
-use Rattle.std.proofs.Math.Nat.{zero-mod}
-use Rattle.std.specs.Prelude.{◌≡◌, refl, List, length, get_or, replicate}
-use Rattle.std.proofs.Math.Path.{sym, ap}
-use Rattle.std.proofs.lemmas.List.{length-replicate}
+use Rattle.std.proofs.Common.{mod-lt, zero-add, arith, sym, ap, ◌∙◌}
 use Rattle.std.proofs.lemmas.List.Edits.{sets}
 use Rattle.std.proofs.Math.Seq.{length-sets}
-use Rattle.algebra.specs.Agree.{agree_refl, agree_⊠}
-use Rattle.algebra.specs.Bridge.{listed_agree, product-series, reduced-listed, series-listed, series_of, cut_product-listed}
-use Rattle.algebra.specs.Lists.{coefficient-tabulate, length-tabulate, tabulate_beyond, tabulate_cong}
+use Rattle.algebra.specs.Agree.{agree_⊠}
+use Rattle.algebra.specs.Bridge.{listed_agree, reduced-listed, series-listed, series_of, cut_product-listed}
+use Rattle.algebra.specs.Lists.{coefficient-tabulate, length-tabulate}
 use Rattle.algebra.specs.Residue.{residues}
-use Rattle.algebra.specs.Semiring.{naturals}
 use Rattle.buffer.specs.Written.{get_or-sets-inside, get_or-sets_other, part-sets}
 use Rattle.definition.specs.Lists.{tabulate, coefficient}
 use Rattle.definition.specs.Substitution.{product, cut_product, cut_product_at}
 use Rattle.rows.specs.Sums.{Small, remainder_list}
 use Rattle.rows.specs.Rows.{Below}
-use Rattle.summed_product.specs.Zeros.{Zeros, zeros-replicate}
+use Rattle.summed_product.specs.Zeros.{Zeros}
 use Rattle.summed_product.specs.Sums.{Sums, sums-added, sums_none, sums-remainders, sums-small}
 use Rattle.summed_product.specs.Terms.{Added, Padded, Pair, product_of, values}
 use Rattle.summed_product.specs.declared.Part.{Part}
-
-pub record Ended (m n : ℕ) (x : List ℕ) : Type 0 where
-  pub zeros : (i : ℕ) → m ≤ i → i < n → coefficient x i ≡ 0
-
-pub whole : (n : ℕ) (x : List ℕ) → Ended n n x
-whole n x = record { zeros = λ i past below. absurd (omega arith) }
-
-pub record Room (m n : ℕ) (left right sums high : List ℕ) : Type 0 where
-  pub few-left : m ≤ 4096
-  pub few : n ≤ 4096
-  pub left-room : m + 16 ≤ length left
-  pub right-room : n + 16 ≤ length right
-  pub sums-room : n ≤ length sums
-  pub high-room : n ≤ length high
-  pub left-zeros : Zeros (length left) left
-  pub right-zeros : Zeros (length right) right
-  pub sums-zeros : Zeros (length sums) sums
-  pub high-zeros : Zeros (length high) high
-
-pub made-room : {m n : ℕ} (c d e : ℕ) → m ≤ 4096 → n ≤ 4096 → m + 16 ≤ c → n + 16 ≤ d → n ≤ e
-    → Room m n (replicate c 0) (replicate d 0) (replicate e 0) (replicate e 0)
-made-room c d e few-left few left right sums = record {
-  few-left = few-left;
-  few = few;
-  left-room = rw length-replicate left;
-  right-room = rw length-replicate right;
-  sums-room = rw length-replicate sums;
-  high-room = rw length-replicate sums;
-  left-zeros = zeros c;
-  right-zeros = zeros d;
-  sums-zeros = zeros e;
-  high-zeros = zeros e;
-}
-  where
-    zeros : (k : ℕ) → Zeros (length {A = ℕ} (replicate k 0)) (replicate k 0)
-    zeros k = record { size = refl; blank = (zeros-replicate k).blank }
 
 unfoldable pub residue_at : ℕ → List ℕ → ℕ → ℕ
 residue_at p x i = coefficient x i % p
@@ -112,14 +67,14 @@ unfolding residue_list
 length-residue_list p n x = length-tabulate n (residue_at p x)
 
 -- a list, reduced modulo p and written into zeros, eight of them before it
-module _ {p : ℕ} (l : 0 < p) (n : ℕ) {c : ℕ} {us : List ℕ} (zeros : Zeros c us) (room : n + 16 ≤ c) (x : List ℕ) where
+module _ {p n : ℕ} (l : 0 < p) (few : n ≤ 128) {us : List ℕ} (zeros : Zeros 144 us) (x : List ℕ) where
   abbrev list : List ℕ
   list = sets us 8 (residue_list p n x)
 
   abbrev part : Part
   part = record { at = 8; count = n }
 
-  fits : 8 + length (residue_list p n x) ≤ c
+  fits : 8 + length (residue_list p n x) ≤ 144
   fits = rw length-residue_list (omega arith)
 
   pub read_padded : Padded list part
@@ -141,72 +96,31 @@ module _ {p : ℕ} (l : 0 < p) (n : ℕ) {c : ℕ} {us : List ℕ} (zeros : Zero
   pub read_values : values list part ≡ coefficient (residue_list p n x)
   read_values = ap coefficient (rw length-residue_list at (part-sets us 8 (residue_list p n x) (rw zeros.size fits)))
 
-module _ {m n : ℕ} {x : List ℕ} (ended : Ended m n x) where
-  -- the first m residues are those of all n places
-  residues_ended : (p i : ℕ) → i < n → coefficient (residue_list p m x) i ≡ coefficient (residue_list p n x) i
-  unfolding residue_list residue_at
-  residues_ended p i below = at (dec_lt i m)
-    where
-      at : Dec (i < m) → coefficient (residue_list p m x) i ≡ coefficient (residue_list p n x) i
-      at (yes h) = coefficient-tabulate m (residue_at p x) i h ∙ sym (coefficient-tabulate n (residue_at p x) i below)
-      at (no h) =
-          rw (
-            tabulate_beyond m (residue_at p x) i (omega arith),
-            coefficient-tabulate n (residue_at p x) i below,
-            ended.zeros i (omega arith) below,
-            zero-mod,
-          )
+pub cut-pair : {p n : ℕ} → 0 < p → n ≤ 128 → {us vs ss hs : List ℕ} → Zeros 144 us → Zeros 144 vs → Zeros 128 ss → Zeros 128 hs → (x y : List ℕ)
+    → Pair p (sets us 8 (residue_list p n x)) record { at = 8; count = n } (sets vs 8 (residue_list p n y)) record { at = 8; count = n } 0 n ss hs
+cut-pair l few u v s h x y = record {
+  left = read_padded l few u x;
+  right = read_padded l few v y;
+  left_below = read_below l few u x;
+  right-below = read_below l few v y;
+  sums-room = rw s.size few;
+  high-room = rw h.size few;
+  few = omega arith;
+}
 
-  product_ended : {p : ℕ} → 0 < p → (y : List ℕ)
-      → tabulate n (λ t. product (coefficient (residue_list p m x)) (coefficient (residue_list p n y)) t % p) ≡ cut_product p n x y
+-- the product is added to sums that are zero
+module _ {p n : ℕ} (l : 0 < p) (few : n ≤ 128) {us vs ss hs : List ℕ} (u : Zeros 144 us) (v : Zeros 144 vs) (s : Zeros 128 ss) (h : Zeros 128 hs)
+    (x y : List ℕ) {sums high : List ℕ}
+    (added : Added n (n + 8) ss sums hs high (product_of (sets us 8 (residue_list p n x)) record { at = 8; count = n }
+    (sets vs 8 (residue_list p n y)) record { at = 8; count = n } 0)) where
+  all : Sums n (0 + (n + 8)) sums high (product (coefficient (residue_list p n x)) (coefficient (residue_list p n y)))
+  all =
+      sums-added (omega arith) (sums_none {n = n} (λ t b. s.blank t) (λ t b. h.blank t)) added
+      (λ t b. rw (read_values l few u x, read_values l few v y, zero-add, zero-add))
+
+  pub cut_small : n ≤ length sums → n ≤ length high → Small n sums high
+  cut_small = sums-small all (omega arith)
+
+  pub cut-remainders : remainder_list p n sums high ≡ cut_product p n x y
   unfolding cut_product cut_product_at
-  product_ended {p} l y =
-      tabulate_cong n (λ t. product u v t % p) (cut_product_at p (residue_list p n x) (residue_list p n y)) (λ k b. ap (λ s. s % p) (same k b))
-      ∙ product-residues l n x y
-    where
-      u : ℕ → ℕ
-      u = coefficient (residue_list p m x)
-
-      v : ℕ → ℕ
-      v = coefficient (residue_list p n y)
-
-      same : (k : ℕ) → k < n → product u v k ≡ product (coefficient (residue_list p n x)) v k
-      same k below =
-          rw (product-series u v, product-series (coefficient (residue_list p n x)) v)
-          (agree_⊠ naturals (residues_ended p) (agree_refl v) k below)
-
--- the product of the first m places of x and the first n of y, read into zeros, and added to sums that are zero
-module _ {p m n : ℕ} (l : 0 < p) {us vs ss hs : List ℕ} (room : Room m n us vs ss hs) (x y : List ℕ) {left right : List ℕ}
-    (e : left ≡ sets us 8 (residue_list p m x)) (f : right ≡ sets vs 8 (residue_list p n y)) where
-  pub cut-pair : Pair p left record { at = 8; count = m } right record { at = 8; count = n } 0 n ss hs
-  cut-pair =
-      rw (e, f)
-      (record {
-        left = read_padded l m room.left-zeros room.left-room x;
-        right = read_padded l n room.right-zeros room.right-room y;
-        left_below = read_below l m room.left-zeros room.left-room x;
-        right-below = read_below l n room.right-zeros room.right-room y;
-        sums-room = room.sums-room;
-        high-room = room.high-room;
-        few = omega (arith, room.few);
-      })
-
-  module _ {sums high : List ℕ}
-      (added : Added n (m + 8) ss sums hs high (product_of left record { at = 8; count = m } right record { at = 8; count = n } 0)) where
-    all : Sums n (0 + (m + 8)) sums high (product (coefficient (residue_list p m x)) (coefficient (residue_list p n y)))
-    all =
-        sums-added (omega (arith, room.few-left)) (sums_none {n = n} (λ t b. room.sums-zeros.blank t) (λ t b. room.high-zeros.blank t)) added
-        (λ t b. rw (
-          e,
-          f,
-          read_values l m room.left-zeros room.left-room x,
-          read_values l n room.right-zeros room.right-room y,
-          zero-add,
-          zero-add,
-        ))
-
-    pub cut_small : n ≤ length sums → n ≤ length high → Small n sums high
-    cut_small = sums-small all (omega (arith, room.few-left))
-
-    pub cut-remainders : Ended m n x → remainder_list p n sums high ≡ cut_product p n x y
-    cut-remainders ended = sums-remainders all (omega (arith, room.few-left)) p ∙ product_ended ended l y
+  cut-remainders = sums-remainders all (omega arith) p ∙ product-residues l n x y

@@ -1,10 +1,10 @@
-// The product of two lists modulo p, cut to some places, as by hand: the rows are added to exact sums (`rows`), and the remainder of a
+// The product of two lists modulo p, cut to at most 128 places, as by hand: the rows are added to exact sums (`rows`), and the remainder of a
 // place is taken once.
 #![tactic(auto)]
 ghost use Rattle.std.specs.Prelude.{◌≡◌, ◌+◌, ◌<◌, ◌≤◌, length};
 ghost use Rattle.std.proofs.lemmas.List.Edits.{sets};
 ghost use Rattle.definition.specs.Substitution.{cut_product};
-ghost use Rattle.schoolbook.specs.ByRows.{Ended, Room, residue_list};
+ghost use Rattle.schoolbook.specs.ByRows.{residue_list};
 
 use summed_product::Part;
 
@@ -20,33 +20,7 @@ fn widen(p: u32, n: usize, x: &[u32], at: usize, into: &mut [u64])
     }
 }
 
-// The first n places of z become the product of x and y modulo p, cut to n places, in four lists of zeros. Of x the first m places are read: those after
-// them are zero.
-pub fn cut_product_in(
-    p: u32,
-    m: usize,
-    n: usize,
-    x: &[u32],
-    y: &[u32],
-    left: &mut [u64],
-    right: &mut [u64],
-    sums: &mut [u64],
-    high: &mut [u64],
-    z: &mut [u32],
-)
-    requires { (0 < p) × (m ≤ length x.now) × Ended m n x.now × (n ≤ length y.now) × Room m n left.old right.old sums.old high.old × (n ≤ length z.old) }
-    ensures { z.new ≡ sets z.old 0 (cut_product p n x.now y.now) }
-{
-    widen(p, m, x, 8, left);
-    widen(p, n, y, 8, right);
-    let first = Part { at: 8, count: m };
-    let second = Part { at: 8, count: n };
-    summed_product::add_product(p, left, first, right, second, 0, n, sums, high);
-    remainder::remainders(p, n, sums, high, z);
-}
-
-// The same of n places of both, at most 128, in lists of its own. It does not call the function above: the compiler would put so short a function, and its
-// lists with it, into the recursive one of `karatsuba`, where each level would have them on the stack.
+// The first n places of z become the product of x and y modulo p, cut to n places.
 pub fn cut_product(p: u32, n: usize, x: &[u32], y: &[u32], z: &mut [u32])
     requires { (0 < p) × (n ≤ 128) × (n ≤ length x.now) × (n ≤ length y.now) × (n ≤ length z.old) }
     ensures { z.new ≡ sets z.old 0 (cut_product p n x.now y.now) }

@@ -1,5 +1,7 @@
 // a(x^2, y) b(x, y) modulo p, where both stand in rows of a lent buffer: its even and odd powers of x come from those of b (`grids`, `double_karatsuba`). The rows are read before
 // the target is written.
+#![tactic(auto)]
+
 ghost use Rattle.std.specs.Prelude.{◌≡◌, ◌*◌, ◌≤◌};
 ghost use Rattle.std.proofs.lemmas.List.Edits.{sets};
 ghost use Rattle.definition.specs.KinoshitaLi.{plane};

@@ -205,8 +205,8 @@ impl Call {
         Left { answer, chain, out, work }
     }
 
-    /// What an accepted call leaves with this output and this weight: the effective length is that of
-    /// the output, the work places that it needs are zero and later ones as before; a cycle is counted.
+    /// What an accepted call leaves with this output and this weight: the work places that it needs
+    /// are zero and later ones as before; a cycle is counted.
     pub fn accepted(self, input: &Input, value: Vec<u32>, weight: u64) -> Left {
         let needed = self.needed(input) as usize;
         let opened = Chain { modulus: input.p, order: input.n, done: 0 };
@@ -216,25 +216,17 @@ impl Call {
             Call::Cycle => Chain { done: input.done + 1, ..opened },
         };
         let work = [vec![0; needed], input.work[needed..].to_vec()].concat();
-        let answer = match self {
-            Call::Open => Answer::opening(0),
-            _ => Answer::accepted(weight, &value),
-        };
-        Left { answer, chain, out: value, work }
+        Left { answer: Answer { number: 0, weight }, chain, out: value, work }
     }
 
-    /// What a call leaves that is refused with this number: the effective length is 0, the buffers and
-    /// the record are as they were; a refused opening leaves a record of zeros.
+    /// What a call leaves that is refused with this number: the buffers and the record as they were,
+    /// a refused opening a record of zeros.
     pub fn refused(self, input: &Input, number: u32) -> Left {
         let chain = match self {
             Call::Cycle => Chain { modulus: input.p, order: input.n, done: input.done },
             _ => Chain::default(),
         };
         let (out, work) = (input.out.clone(), input.work.clone());
-        let answer = match self {
-            Call::Open => Answer::opening(number),
-            _ => Answer::refused(number),
-        };
-        Left { answer, chain, out, work }
+        Left { answer: Answer { number, weight: 0 }, chain, out, work }
     }
 }

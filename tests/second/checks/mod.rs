@@ -7,7 +7,6 @@ pub mod chain;
 pub mod cut;
 pub mod equality;
 pub mod job;
-pub mod lengths;
 pub mod library;
 pub mod primes;
 pub mod render;

@@ -1,18 +1,15 @@
-//! Libraries that misread the block length, what a cycle does or a reverse, or the effective length,
-//! each in one way. The checks must find fault with every one of them, and with nothing in the second
-//! implementation itself.
+//! Libraries that misread the block length, what a cycle does or a reverse, each in one way. The checks must find
+//! fault with every one of them, and with nothing in the second implementation itself.
 
 use super::blocks::{beside_other_reasons, every_length};
-use super::calls::precedence;
 use super::chain::{composition, different_cycles};
 use super::cut::{every_split, undone};
-use super::lengths::{along_chains, every_length as every_effective_length, few_places, reversed};
 use super::library::{Library, Plain};
 use super::support::{Check, Tally};
 use crate::plain::calls::Answer;
 use crate::plain::chain::Chain;
 use crate::plain::primes::is_prime;
-use crate::plain::products::{effective_length, places};
+use crate::plain::products::places;
 use crate::plain::random::Random;
 use crate::plain::routes::BLOCK_LENGTH;
 use crate::plain::substitution::substitution;
@@ -31,34 +28,9 @@ const WEIGHT_OF_THE_LIST: usize = 9;
 const FIRST_THEN_COUNTED: usize = 10;
 const LIST_CUT_TO_TWO_PLACES: usize = 11;
 const OWN_REVERSE: usize = 12;
-const ONE_PLACE_LESS: usize = 13;
-const LENGTH_OF_A_FACTOR: usize = 14;
-const ORDER_FOR_EVERY_ANSWER: usize = 15;
-const NON_ZERO_PLACES: usize = 16;
-const LENGTH_AFTER_A_REFUSAL: usize = 17;
-const WEIGHT_FROM_THE_LENGTH: usize = 18;
 
 /// The second implementation with a misreading.
 struct Wrong<const MISREADING: usize>;
-
-impl<const MISREADING: usize> Wrong<MISREADING> {
-    /// What is answered of a call with this inner list, cycle list or series that left this list.
-    fn measured(mut answer: Answer, inner: &[u32], left: &[u32]) -> Answer {
-        let length = effective_length(left);
-        match (MISREADING, answer.number) {
-            (ONE_PLACE_LESS, 0) => answer.length = Some(length.saturating_sub(1)),
-            (LENGTH_OF_A_FACTOR, 0) => answer.length = Some(effective_length(inner)),
-            (ORDER_FOR_EVERY_ANSWER, 0) => answer.length = Some(left.len() as u64),
-            (NON_ZERO_PLACES, 0) => {
-                answer.length = Some(left.iter().filter(|&&place| place != 0).count() as u64);
-            }
-            (LENGTH_AFTER_A_REFUSAL, 1..) => answer.length = Some(length),
-            (WEIGHT_FROM_THE_LENGTH, 0) => answer.weight = answer.weight.min(length),
-            _ => (),
-        }
-        answer
-    }
-}
 
 impl<const MISREADING: usize> Wrong<MISREADING> {
     /// The length that is taken, or the number that comes back.
@@ -92,8 +64,7 @@ impl<const MISREADING: usize> Wrong<MISREADING> {
         work: &mut [u32],
     ) -> (Chain, Answer) {
         let before = running.to_vec();
-        let (next, answer) = Plain::cycle(chain, route, block, list, running, work);
-        let mut answer = Self::measured(answer, list, running);
+        let (next, mut answer) = Plain::cycle(chain, route, block, list, running, work);
         if answer.number != 0 {
             return (next, answer);
         }
@@ -127,11 +98,8 @@ impl<const MISREADING: usize> Library for Wrong<MISREADING> {
         work: &mut [u32],
     ) -> Answer {
         match Self::read(route, block, p) {
-            Ok(block) => {
-                let answer = Plain::compose(route, block, p, n, f, g, out, work);
-                Self::measured(answer, g, out)
-            }
-            Err(number) => Answer::refused(number),
+            Ok(block) => Plain::compose(route, block, p, n, f, g, out, work),
+            Err(number) => Answer { number, weight: 0 },
         }
     }
 
@@ -140,7 +108,7 @@ impl<const MISREADING: usize> Library for Wrong<MISREADING> {
         if answer.number == 0 && MISREADING == OWN_REVERSE {
             out.copy_from_slice(&places(g, out.len()));
         }
-        Self::measured(answer, g, out)
+        answer
     }
 
     fn open(p: u64, n: u64, running: &mut [u32]) -> (Chain, Answer) {
@@ -157,7 +125,7 @@ impl<const MISREADING: usize> Library for Wrong<MISREADING> {
     ) -> (Chain, Answer) {
         match Self::read(route, block, chain.modulus) {
             Ok(block) => Self::cycled(chain, route, block, list, running, work),
-            Err(number) => (chain, Answer::refused(number)),
+            Err(number) => (chain, Answer { number, weight: 0 }),
         }
     }
 
@@ -219,26 +187,6 @@ pub fn cut_and_undone(tally: &mut Tally, random: &mut Random) {
         ("first cycle, then only counted, cut", every_split::<Wrong<FIRST_THEN_COUNTED>>),
         ("first cycle, then only counted, undone", undone::<Wrong<FIRST_THEN_COUNTED>>),
         ("a series its own reverse", undone::<Wrong<OWN_REVERSE>>),
-    ];
-    faulted(tally, random, &wrong);
-}
-
-/// The checks of results of every effective length, of one of these libraries.
-fn of_lengths<const MISREADING: usize>(tally: &mut Tally, random: &mut Random) {
-    every_effective_length::<Wrong<MISREADING>>(tally, random);
-}
-
-pub fn effective_lengths(tally: &mut Tally, random: &mut Random) {
-    let wrong: [(&str, Check); 9] = [
-        ("one place less", of_lengths::<ONE_PLACE_LESS>),
-        ("the length of a factor", of_lengths::<LENGTH_OF_A_FACTOR>),
-        ("n for every answer", of_lengths::<ORDER_FOR_EVERY_ANSWER>),
-        ("the places that are not zero", of_lengths::<NON_ZERO_PLACES>),
-        ("a weight from the length", of_lengths::<WEIGHT_FROM_THE_LENGTH>),
-        ("n for few places", few_places::<Wrong<ORDER_FOR_EVERY_ANSWER>>),
-        ("one place less of a reverse series", reversed::<Wrong<ONE_PLACE_LESS>>),
-        ("the length of the cycle list", along_chains::<Wrong<LENGTH_OF_A_FACTOR>>),
-        ("a length after a refusal", precedence::<Wrong<LENGTH_AFTER_A_REFUSAL>>),
     ];
     faulted(tally, random, &wrong);
 }

@@ -2,31 +2,12 @@
 //! buffer. An accepted one fills the output, clears the work places it may use and no others. The
 //! block length is that of route 2; a call without one is the call with `routes::BLOCK_LENGTH`.
 
-use super::{primes, products, refusals, reversion, routes};
+use super::{primes, refusals, reversion, routes};
 
-/// What a call answers. Compose, reverse and a cycle give an effective length, an opening none.
 #[derive(Clone, Copy, Debug, PartialEq, Eq)]
 pub struct Answer {
     pub number: u32,
     pub weight: u64,
-    pub length: Option<u64>,
-}
-
-impl Answer {
-    /// Of compose, reverse or a cycle that wrote this list.
-    pub fn accepted(weight: u64, written: &[u32]) -> Answer {
-        Answer { number: 0, weight, length: Some(products::effective_length(written)) }
-    }
-
-    /// Of compose, reverse or a cycle.
-    pub fn refused(number: u32) -> Answer {
-        Answer { number, weight: 0, length: Some(0) }
-    }
-
-    /// Of an opening.
-    pub fn opening(number: u32) -> Answer {
-        Answer { number, weight: 0, length: None }
-    }
 }
 
 pub fn compose(
@@ -41,22 +22,21 @@ pub fn compose(
 ) -> Answer {
     let number = refusals::compose(route, block, p, n, f, g, out.len(), work.len());
     if number != 0 {
-        return Answer::refused(number);
+        return Answer { number, weight: 0 };
     }
     let (value, weight) = routes::by_number(route, p, f, g, n as usize, block);
     out.copy_from_slice(&value);
     work[..refusals::work_places(n, f.len()) as usize].fill(0);
-    Answer::accepted(weight, out)
+    Answer { number, weight }
 }
 
 pub fn reverse(p: u64, n: u64, g: &[u32], out: &mut [u32], work: &mut [u32]) -> Answer {
     let number = refusals::reverse(p, n, g, out.len(), work.len());
-    if number != 0 {
-        return Answer::refused(number);
+    if number == 0 {
+        out.copy_from_slice(&reversion::reverse(p, g, n as usize));
+        work[..refusals::work_places(n, g.len()) as usize].fill(0);
     }
-    out.copy_from_slice(&reversion::reverse(p, g, n as usize));
-    work[..refusals::work_places(n, g.len()) as usize].fill(0);
-    Answer::accepted(0, out)
+    Answer { number, weight: 0 }
 }
 
 /// The number, and the prime at this index of the table or 0.

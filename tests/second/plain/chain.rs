@@ -15,7 +15,7 @@ impl Chain {
     /// Sets the running series to x; a refused opening returns a record of zeros.
     pub fn open(modulus: u64, order: u64, running: &mut [u32]) -> (Chain, Answer) {
         let number = refusals::open(modulus, order, running.len());
-        let answer = Answer::opening(number);
+        let answer = Answer { number, weight: 0 };
         if number != 0 {
             return (Chain::default(), answer);
         }
@@ -36,13 +36,13 @@ impl Chain {
         let Chain { modulus, order, done } = self;
         let number = refusals::cycle(route, block, modulus, order, done, list, running, work.len());
         if number != 0 {
-            return (self, Answer::refused(number));
+            return (self, Answer { number, weight: 0 });
         }
         let places = running.len();
         let (value, weight) = routes::by_number(route, modulus, running, list, places, block);
         running.copy_from_slice(&value);
         work[..refusals::cycle_work_places(order, list.len()) as usize].fill(0);
-        (Chain { done: done + 1, ..self }, Answer::accepted(weight, running))
+        (Chain { done: done + 1, ..self }, Answer { number, weight })
     }
 }
 

@@ -1,5 +1,5 @@
 //! Products of series in one and in two variables, each given with the number of places it was cut
-//! to, and the sum and the quotient, which count nothing; the effective length of a list.
+//! to, and the sum and the quotient, which count nothing.
 //!
 //! A series in two variables is a list of rows: row j holds the coefficients, in x, of y^j.
 
@@ -64,12 +64,6 @@ pub fn quotient(p: u64, a: &[u32], b: &[u32]) -> Vec<u32> {
 /// The list as n places: cut, or filled up with zeros.
 pub fn places(list: &[u32], n: usize) -> Vec<u32> {
     (0..n).map(|i| list.get(i).copied().unwrap_or(0)).collect()
-}
-
-/// The effective length: the place of the last non-zero coefficient plus one, or 0.
-pub fn effective_length(list: &[u32]) -> u64 {
-    let zeros = list.iter().rev().take_while(|&&coefficient| coefficient == 0).count();
-    (list.len() - zeros) as u64
 }
 
 /// x^step for x in the list, cut to n places.

@@ -1,5 +1,6 @@
 -- `bernstein::bernstein` meets its contract. Assumes nothing.
 use borrow.Author.Rules.{rules}
+use Rattle.buffer.specs.Segments.{copy_down}
 use native.Mathlib.Omega.{arith}
 use Prim.Native.Nat.{◌+◌}
 use mathlib.Core.Path.{◌∙◌}
@@ -30,16 +31,17 @@ level-requires c κs =
       room = omega (arith, start.requires.0.enough, put.put.auto.1.1.0, put2.put2.auto.1.1.0);
     }
 
-add-deliver : tie.Need-overflow-add-deliver
-add-deliver c = search rules
+add-copy-part : tie.Need-overflow-add-copy-part
+add-copy-part c = search rules
 
-deliver-requires : tie.Need-deliver-requires
-deliver-requires c κs =
+copy-part-requires : tie.Need-copy-part-requires
+copy-part-requires c κs =
     let level = c.before.before.before in
     let put2 = level.before.before.before.before in
     let put = put2.before.before.before.before in
     let start = put.before.before.before.before.before in
-    omega (arith, start.requires.0.enough, level.level.ensures.within.size, put2.put2.auto.1.1.0, put.put.auto.1.1.0)
+    copy_down (omega arith)
+    (omega (arith, start.requires.0.enough, level.level.ensures.within.size, put2.put2.auto.1.1.0, put.put.auto.1.1.0))
 
 same_length : tie.Need-same-length
 same_length c = search rules
@@ -60,9 +62,9 @@ returns c =
     ∙ put-composed f start.args.g.now start.args.w.now put.put.new.1.1.0 start.requires.0.modulus (omega arith) put.put.ensures)
     level.level.ensures.sum
     (omega (arith, level.level.ensures.within.size, put2.put2.auto.1.1.0, put.put.auto.1.1.0))
-    moved.deliver.ensures.0 moved.deliver.ensures.1
+    moved.copy-part.ensures
 
 pub bernstein-spec : {M : Type 1} → statement M
 bernstein-spec =
     tie.close
-    (tie.spec put-requires put-requires-2 level-requires add-deliver deliver-requires same_length returns)
+    (tie.spec put-requires put-requires-2 level-requires add-copy-part copy-part-requires same_length returns)

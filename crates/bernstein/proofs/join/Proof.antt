@@ -22,8 +22,8 @@ same_length c = search rules
 
 returns : tie.Need-returns
 returns c =
-    let start = c.before.before.before.before.before.before.before.before.before.before in
-    join_moved start.requires c.before.before.before.before.before.before.before.multiply-add.ensures.0 c.before.before.copy-part.ensures
+    let start = c.before.before.before.before.before.before.before.before.before in
+    join_moved start.requires c.before.before.before.before.before.before.multiply-add.ensures c.before.before.copy-part.ensures
 
 pub join-spec : {M : Type 1} → statement M
 join-spec =

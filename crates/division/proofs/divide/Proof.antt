@@ -50,7 +50,7 @@ returns c =
     let start = put.before.before.before in
     rw moved.copy-part.ensures
     (divided _ _ _ _ start.requires.0 start.requires.1 (omega arith) put.complement.ensures inverted.inverse.ensures
-    multiplied.multiply.ensures.0)
+    multiplied.multiply.ensures)
 
 pub divide-spec : {M : Type 1} → statement M
 divide-spec =

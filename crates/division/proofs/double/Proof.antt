@@ -64,8 +64,8 @@ returns c =
     let pre = cleared.before.before.before.before.pre in (
       omega arith,
       omega arith,
-      inverted_doubled pre (omega arith) (omega arith) (omega arith) cleared.clear-part.ensures first.multiply.ensures.0
-          second.multiply2.ensures.0,
+      inverted_doubled pre (omega arith) (omega arith) (omega arith) cleared.clear-part.ensures first.multiply.ensures
+          second.multiply2.ensures,
     )
 
 pub double-spec : {M : Type 1} → statement M

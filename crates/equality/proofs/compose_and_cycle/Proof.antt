@@ -27,7 +27,7 @@ returns c =
     let after = c.before.before.before.before in
     let first = after.before.before.before.before.before.before.before.compose-blocks.ensures in
     let second = after.cycle-blocks.ensures in
-    (first.0, (first.1, (second.0, (second.1, two_calls (compose first.0) (cycle second.0)))))
+    (first, (second, two_calls (compose first) (cycle second)))
 
 pub compose-and-cycle-spec : {M : Type 1} → statement M
 compose-and-cycle-spec =

@@ -27,7 +27,7 @@ returns c =
     let after = c.before.before.before.before in
     let first = after.before.before.before.before.before.before.before.cycle-blocks.ensures in
     let second = after.cycle-blocks2.ensures in
-    (first.0, (first.1, (second.0, (second.1, two_calls (cycle first.0) (cycle second.0)))))
+    (first, (second, two_calls (cycle first) (cycle second)))
 
 pub cycle-and-cycle-spec : {M : Type 1} → statement M
 cycle-and-cycle-spec =

@@ -1,5 +1,6 @@
 -- `horner::horner` meets its contract. Assumes nothing.
 use borrow.Author.Rules.{rules}
+use Rattle.buffer.specs.Segments.{copy_down}
 use native.Mathlib.Omega.{arith}
 use mathlib.Core.Logic.{inl}
 use mathlib.Core.Path.{◌∙◌}
@@ -29,12 +30,12 @@ horner-part-requires c κs =
       };
     }
 
-deliver-requires : tie.Need-deliver-requires
-deliver-requires c κs =
+copy-part-requires : tie.Need-copy-part-requires
+copy-part-requires c κs =
     let part = c.before.before.before in
     let put = part.before.before.before.before in
     let lent = put.before.before.before.before.before.requires in
-    omega (arith, lent.enough, put.put.auto.1.1.0, part.horner-part.ensures.within.size)
+    copy_down (omega arith) (omega (arith, lent.enough, put.put.auto.1.1.0, part.horner-part.ensures.within.size))
 
 same_length : tie.Need-same-length
 same_length c = search rules
@@ -54,7 +55,7 @@ returns c =
     put.put.ensures)
     done.sum
     (omega (arith, put.put.auto.1.1.0, done.within.size))
-    moved.deliver.ensures.0 moved.deliver.ensures.1
+    moved.copy-part.ensures
 
 pub horner-spec : {M : Type 1} → statement M
-horner-spec = tie.close (tie.spec put-requires horner-part-requires deliver-requires same_length returns)
+horner-spec = tie.close (tie.spec put-requires horner-part-requires copy-part-requires same_length returns)

@@ -51,7 +51,7 @@ returns c =
     let first = second.before in
     let end = first.before in
     let size = length-take-le _ _ (enough end) ∙ end.work-places2.ensures in
-    composition (begin end).requires first.field.ensures second.field2.ensures size composed.compose.ensures.0
+    composition (begin end).requires first.field.ensures second.field2.ensures size composed.compose.ensures
 
 pub compose-lists-spec : {M : Type 1} → statement M
 compose-lists-spec =

@@ -16,7 +16,7 @@ same-length-2 c = search rules
 returns : tie.Need-returns
 returns c =
     let composed = c.before.before.before.before.compose-blocks.ensures in
-    (composed.0, (composed.1, compose-joined composed.0))
+    (composed, compose-joined composed)
 
 pub join-spec : {M : Type 1} → statement M
 join-spec = tie.close (tie.spec compose-blocks-requires same_length same-length-2 returns)

@@ -29,7 +29,7 @@ returns c =
     let reversed = between.before.before.before.before.before.before.before.reverse.ensures in
     let cycled = between.cycle-blocks.ensures in
     let undone = after.cycle-blocks2.ensures in
-    ((_, _, _, reversed.0, reversed.1, cycled.0, cycled.1, undone.0, undone.1), reverse-undone reversed.0 cycled.0 undone.0)
+    ((_, _, _, reversed, cycled, undone), reverse-undone reversed cycled undone)
 
 pub undo-spec : {M : Type 1} → statement M
 undo-spec =

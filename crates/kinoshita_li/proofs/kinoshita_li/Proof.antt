@@ -1,5 +1,6 @@
 -- `kinoshita_li::kinoshita_li` meets its contract. Assumes nothing.
 use borrow.Author.Rules.{rules}
+use Rattle.buffer.specs.Segments.{copy_down}
 use native.Mathlib.Omega.{arith}
 use Prim.Native.Nat.{◌+◌, ◌*◌, ◌<◌, ◌≤◌}
 use lib.ListN.{length}
@@ -17,23 +18,16 @@ put-constant-requires c κs =
 none-requires : tie.Need-none-requires
 none-requires c κs = search rules
 
-effective-part-requires : tie.Need-effective-part-requires
-effective-part-requires c κs =
-    let put = c.before.before.before.before in
-    omega (arith, put.before.before.before.before.before.before.pre.enough, put.put-constant.kept.1.1.0)
-
 same_length : tie.Need-same-length
 same_length c = search rules
 
 returns : tie.Need-returns
 returns c =
-    let none = c.before.before in
-    let put = none.before.before.before in
+    let put = c.before.before.before in
     let test = put.before.before in
     let start = test.before.before.before.before in
-    rw none.none.ensures
-    (none_done start.args.f.now start.args.g.now start.args.w.now start.pre test.if1.taken put.put-constant.ensures
-    c.effective-part.ensures)
+    rw c.none.ensures
+    (none_done start.args.f.now start.args.g.now start.args.w.now start.pre test.if1.taken put.put-constant.ensures)
 
 work-places-requires : tie.Need-work-places-requires
 work-places-requires c κs = search rules
@@ -76,23 +70,23 @@ fraction-requires c κs =
     fraction-lent args.f.now args.w.now (start bound).pre (counted bound).work-places.ensures (some bound)
     bound.smaller.ensures
 
-add-deliver : tie.Need-add-deliver
-add-deliver c = omega (arith, c.before.before.before.before.before.smaller.ensures)
+add-copy-part : tie.Need-add-copy-part
+add-copy-part c = omega (arith, c.before.before.before.before.before.smaller.ensures)
 
-mul-deliver : tie.Need-mul-deliver
-mul-deliver c =
+mul-copy-part : tie.Need-mul-copy-part
+mul-copy-part c =
     let bound = c.before.before.before.before.before in
     omega (arith, inside bound, enough bound, (start bound).good)
 
-deliver-requires : tie.Need-deliver-requires
-deliver-requires c κs =
+copy-part-requires : tie.Need-copy-part-requires
+copy-part-requires c κs =
     let called = c.before.before.before in
     let bound = called.before.before in
     let came = called.fraction in
     let size =
     length_front (start bound).args.w.now came.last.1.1.1.1.1.0 (counted bound).work-places.result
     came.kept.1.1.1.1.1.0 in
-    omega (arith, size, inside bound, enough bound)
+    copy_down (omega arith) (omega (arith, size, inside bound, enough bound))
 
 same-length-2 : tie.Need-same-length-2
 same-length-2 c = search rules
@@ -105,7 +99,7 @@ returns-2 c =
     let args = (start bound).args in
     some-done args.f.now args.w.now (start bound).pre (counted bound).work-places.ensures (some bound)
     bound.smaller.ensures (called.fraction.kept.1.1.1.1.1.0 ∙ length-take-le _ _ (enough bound))
-    called.fraction.ensures moved.deliver.ensures.0 moved.deliver.ensures.1
+    called.fraction.ensures moved.copy-part.ensures
 
 pub kinoshita-li-spec : {M : Type 1} → statement M
 kinoshita-li-spec =
@@ -113,7 +107,6 @@ kinoshita-li-spec =
     (tie.spec
     put-constant-requires
     none-requires
-    effective-part-requires
     same_length
     returns
     work-places-requires
@@ -122,8 +115,8 @@ kinoshita-li-spec =
     slice-relend-prefix-fraction
     slice-aggregate-fraction
     fraction-requires
-    add-deliver
-    mul-deliver
-    deliver-requires
+    add-copy-part
+    mul-copy-part
+    copy-part-requires
     same-length-2
     returns-2)

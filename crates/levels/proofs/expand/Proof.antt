@@ -20,9 +20,9 @@ same_length c = search rules
 
 returns : tie.Need-returns
 returns c =
-    let product = c.before.before.before in
+    let product = c.before.before in
     let squared = product.before.before.before.before in
-    rw (product.multiply-spread.ensures.0.written, product.multiply-spread.ensures.0.places, squared.squared.ensures)
+    rw (product.multiply-spread.ensures.written, product.multiply-spread.ensures.places, squared.squared.ensures)
     (expanded_written squared.before.before.before.before.before.before.before.requires)
 
 pub expand-spec : {M : Type 1} → statement M

@@ -25,9 +25,9 @@ same_length c = search rules
 returns : tie.Need-returns
 returns c =
     let even = c.before.before in
-    let product = even.before.before.before.before.before in
+    let product = even.before.before.before.before in
     let opposite = product.before.before.before.before in
-    rw (even.even-part.ensures, product.multiply-opposite.ensures.0.written, product.multiply-opposite.ensures.0.places, opposite.opposite.ensures)
+    rw (even.even-part.ensures, product.multiply-opposite.ensures.written, product.multiply-opposite.ensures.places, opposite.opposite.ensures)
     (graeffe-written opposite.before.before.before.before.before.requires)
 
 pub graeffe-spec : {M : Type 1} → statement M

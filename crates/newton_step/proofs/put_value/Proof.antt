@@ -27,8 +27,7 @@ module _ (c : tie.After-smaller) where
   lent : Lent start.args.p (length h) (length (take c.smaller.result g)) (length w)
   lent = value_lent g h w start.pre.1 c.smaller.result
 
-  put : {after : List ℕ} {weight result length' : ℕ}
-      → Route start.args.p (length h) (take c.smaller.result g) h weight w after result length'
+  put : {after : List ℕ} {weight result : ℕ} → Route start.args.p (length h) (take c.smaller.result g) h weight w after result
       → ValuePut start.args.p g h w after
   put = value-put g h w start.pre.1 c.smaller.result start.pre.0 c.smaller.ensures
 

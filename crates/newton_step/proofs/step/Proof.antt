@@ -60,7 +60,7 @@ returns c =
     let called = derived.before.before.before.before.before in
     let start = called.before.before.before.before.before.before in
     stepped start.args.g.now start.args.h.now start.args.w.now start.requires called.put-value.ensures
-    derived.put-derivative.ensures multiplied.multiply.ensures.0 subtracted.subtract.ensures
+    derived.put-derivative.ensures multiplied.multiply.ensures subtracted.subtract.ensures
 
 pub step_spec : {M : Type 1} → statement M
 step_spec =

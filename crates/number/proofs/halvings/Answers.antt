@@ -1,5 +1,4 @@
 -- `number::halvings` meets its contract: the number of halvings is that of the binary digits of n - 1. Assumes nothing.
-use borrow.Author.Rules.{rules}
 use native.Mathlib.Omega.{arith}
 use Prim.Native.Nat.{◌-◌}
 use lib.Count.{leading_le}

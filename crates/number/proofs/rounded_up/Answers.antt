@@ -1,5 +1,4 @@
 -- `number::rounded_up` meets its contract. Assumes nothing.
-use borrow.Author.Rules.{rules}
 use mathlib.Core.Path.{refl}
 use Rattle.definition.specs.Lists.{ceil_div}
 use Rattle.number.proofs.rounded_up.Goals as goal

@@ -18,13 +18,11 @@ same_length c = search rules
 returns : tie.Need-returns
 returns c =
     let added = c.before.before in
-    let zeroed = added.before.before.before.before in (
-      record {
-        written = added.multiply-add.ensures.0.written ∙ rw zeroed.clear-part.ensures (added-zeros zeroed.before.before.before.requires);
-        places = added.multiply-add.ensures.0.places;
-      },
-      added.multiply-add.ensures.1,
-    )
+    let zeroed = added.before.before.before.before in
+    record {
+      written = added.multiply-add.ensures.written ∙ rw zeroed.clear-part.ensures (added-zeros zeroed.before.before.before.requires);
+      places = added.multiply-add.ensures.places;
+    }
 
 pub multiply-spec : {M : Type 1} → statement M
 multiply-spec = tie.close (tie.spec clear-part-requires multiply-add-requires same_length returns)

@@ -25,8 +25,8 @@ same_length c = search rules
 returns : tie.Need-returns
 returns c =
     let added = c.before.before in
-    let multiplied = added.before.before.before.before.before in
-    join_made multiplied.before.before.before.requires multiplied.multiply.ensures.0 added.add-part.ensures
+    let multiplied = added.before.before.before.before in
+    join_made multiplied.before.before.before.requires multiplied.multiply.ensures added.add-part.ensures
 
 pub join-spec : {M : Type 1} → statement M
 join-spec =

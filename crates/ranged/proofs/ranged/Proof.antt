@@ -1,5 +1,6 @@
 -- `ranged::ranged` meets its contract: the powers, then the span of all blocks. Assumes nothing.
 use borrow.Author.Rules.{rules}
+use Rattle.buffer.specs.Segments.{copy_down}
 use Rattle.route.specs.Contract.{put-composed, put-within, route_moved}
 use Rattle.ranged.specs.Whole.{whole-levels, whole-places, whole-powers, whole-small, whole-span, whole-value, whole-weight, whole-within}
 use native.Mathlib.Omega.{arith}
@@ -42,15 +43,16 @@ compose-span-requires c κs =
     let begin = rounds.before.before.before.before in
     whole-span begin.args.f.now begin.requires.0 begin.requires.1 rounds.rounds.ensures powers.powers.ensures put.put.auto.1.1.0
 
-deliver-requires : tie.Need-deliver-requires
-deliver-requires c κs =
+copy-part-requires : tie.Need-copy-part-requires
+copy-part-requires c κs =
     let span = c.before.before.before in
     let powers = span.before.before.before.before in
     let put = powers.before.before.before.before in
     let rounds = put.before.before in
     let begin = rounds.before.before.before.before in
     let size = (whole-within begin.args.f.now begin.requires.0 begin.requires.1 rounds.rounds.ensures powers.powers.ensures span.compose-span.ensures).size in
-    omega (arith, begin.requires.0.enough, (whole-places begin.args.f.now begin.requires.0 begin.requires.1 rounds.rounds.ensures).0, put.put.auto.1.1.0, size)
+    copy_down (omega arith)
+    (omega (arith, begin.requires.0.enough, (whole-places begin.args.f.now begin.requires.0 begin.requires.1 rounds.rounds.ensures).0, put.put.auto.1.1.0, size))
 
 plus-requires : tie.Need-plus-requires
 plus-requires c κs =
@@ -84,7 +86,7 @@ returns c =
     ∙ put-composed f g w put.put.new.1.1.0 begin.requires.0.modulus (omega (arith, begin.requires.0.enough)) put.put.ensures)
     (c.plus.ensures ∙ whole-weight f begin.requires.0 begin.requires.1 number made joined)
     (omega (arith, begin.requires.0.enough, (whole-places f begin.requires.0 begin.requires.1 number).0, put.put.auto.1.1.0, within.size))
-    moved.deliver.ensures.0 moved.deliver.ensures.1
+    moved.copy-part.ensures
 
 pub ranged-spec : {M : Type 1} → statement M
 ranged-spec =
@@ -96,7 +98,7 @@ ranged-spec =
     put-requires
     powers-requires
     compose-span-requires
-    deliver-requires
+    copy-part-requires
     plus-requires
     same_length
     returns)

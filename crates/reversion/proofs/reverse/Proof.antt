@@ -5,7 +5,6 @@ use Prim.Native.Nat.{ℕ}
 use lib.ListN.{length}
 use mathlib.Core.Path.{◌≡◌, sym, ◌∙◌}
 use Rattle.definition.specs.Refusal.{reverse_refusal}
-use Rattle.refusal.specs.Answers.{length-accepted, length-refused}
 use Rattle.refusal.specs.Bounds.{ReverseBounds, reverse-bounds}
 use Rattle.reversion.specs.Answered.{reverse-accepted, reverse-reversible, reverse-refused}
 use Rattle.reversion.proofs.reverse.Statement.{statement}
@@ -16,11 +15,9 @@ reverse-requires c κs = search rules
 
 returns : tie.Need-returns
 returns c =
-    let begin = c.before.before.before.before.before in (
-      reverse-refused begin.args.p begin.args.n begin.args.g.now begin.args.out.now begin.args.work.now
-          c.before.reverse.ensures c.if1.true,
-      length-refused begin.args.out.now c.if1.true,
-    )
+    let begin = c.before.before.before.before.before in
+    reverse-refused begin.args.p begin.args.n begin.args.g.now begin.args.out.now begin.args.work.now
+    c.before.reverse.ensures (λ none. omega arith)
 
 -- an accepted call
 module _ (c : tie.Else1) where
@@ -59,9 +56,6 @@ clear-requires c κs =
     let known = within called.before.before.before in
     omega (arith, known.enough, c.work-places.ensures, called.newton.ensures.within.size)
 
-effective-length-requires : tie.Need-effective-length-requires
-effective-length-requires c κs = search rules
-
 same_length : tie.Need-same-length
 same_length c = search rules
 
@@ -70,17 +64,15 @@ same-length-2 c = search rules
 
 returns-2 : tie.Need-returns-2
 returns-2 c =
-    let clear = c.before.before.before.before in
+    let clear = c.before.before in
     let counted = clear.before in
     let called = counted.before.before.before.before.before.before in
     let branch = called.before.before.before in
-    let args = (begin branch).args in (
-      reverse-accepted args.p args.n args.g.now args.out.now args.work.now (accepted branch) called.newton.ensures
-          counted.work-places.ensures clear.clear.ensures,
-      length-accepted c.effective-length.ensures,
-    )
+    let args = (begin branch).args in
+    reverse-accepted args.p args.n args.g.now args.out.now args.work.now (accepted branch) called.newton.ensures
+    counted.work-places.ensures clear.clear.ensures
 
 pub reverse-spec : {M : Type 1} → statement M
 reverse-spec =
     tie.close
-    (tie.spec reverse-requires returns newton-requires work-places-requires clear-requires effective-length-requires same_length same-length-2 returns-2)
+    (tie.spec reverse-requires returns newton-requires work-places-requires clear-requires same_length same-length-2 returns-2)

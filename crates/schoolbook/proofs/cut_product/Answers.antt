@@ -1,31 +1,60 @@
 -- `schoolbook::cut_product` meets its contract. Assumes nothing.
 use borrow.Author.Rules.{rules}
 use native.Mathlib.Omega.{arith}
-use mathlib.Core.Path.{ap, ◌∙◌}
-use lib.ListN.{replicate}
+use Prim.Native.Nat.{ℕ, ◌+◌, ◌*◌, ◌-◌, ◌<◌, ◌≤◌, ◌%◌}
+use lib.ListN.{length, get_or, take, drop, set}
 use lib.Seq.{sets}
-use Rattle.schoolbook.specs.ByRows.{Room, cut-pair, cut-remainders, cut_small, made-room, whole}
+use Rattle.schoolbook.specs.ByRows.{cut-pair, cut-remainders, cut_small}
+use Rattle.summed_product.specs.Zeros.{zeros-replicate}
+use mathlib.Core.Path.{◌≡◌, refl, sym, ap, ◌∙◌}
+use Rattle.schoolbook.proofs.cut_product.Lts as lts
 use Rattle.schoolbook.proofs.cut_product.Goals as goal
-use Rattle.schoolbook.proofs.cut_product.Goals.{Start}
 
-room : (c : Start) → Room c.args.n c.args.n (replicate 144 0) (replicate 144 0) (replicate 128 0) (replicate 128 0)
-room c = made-room 144 144 128 (omega arith) (omega arith) (omega arith) (omega arith) (omega arith)
+-- src/lib.rt:32:23
+
+-- src/lib.rt:32:5
+
+-- src/lib.rt:33:23
+
+-- src/lib.rt:33:5
+
+-- src/lib.rt:35:36
+
+-- src/lib.rt:35:49
+
+-- src/lib.rt:35:69
+
+-- src/lib.rt:35:80
+
+-- src/lib.rt:35:5
+
+-- src/lib.rt:36:33
+
+-- src/lib.rt:36:40
+
+-- src/lib.rt:36:5
+
+-- src/lib.rt:24:1
+
+-- src/lib.rt:24:1
 
 pub add_product-requires : goal.add_product-requires
 add_product-requires c =
-    cut-pair c.requires.0 (room (goal.at.add_product-requires c).Start) _ _ c.widen.ensures c.widen-2.ensures
+    rw (c.widen.ensures, c.widen-2.ensures)
+    (cut-pair c.requires.0 c.requires.1 (zeros-replicate 144) (zeros-replicate 144) (zeros-replicate 128) (zeros-replicate 128) _ _)
 
 pub remainders-requires : goal.remainders-requires
 remainders-requires c =
-    let pre = c.requires in (
-      pre.0,
-      cut_small pre.0 (room (goal.at.remainders-requires c).Start) _ _ c.widen.ensures c.widen-2.ensures c.add_product.ensures (search rules) (search rules),
-      pre.4,
+    (
+      c.requires.0,
+      cut_small c.requires.0 c.requires.1 (zeros-replicate 144) (zeros-replicate 144) (zeros-replicate 128) (zeros-replicate 128) _ _
+          (rw (c.widen.ensures, c.widen-2.ensures) at c.add_product.ensures) (search rules) (search rules),
+      c.requires.4,
     )
 
 pub returns : goal.returns
 returns c =
-    let pre = c.requires in
     c.remainders.ensures
     ∙ ap (sets _ 0)
-    (cut-remainders pre.0 (room (goal.at.returns c).Start) _ _ c.widen.ensures c.widen-2.ensures c.add_product.ensures (whole _ _))
+    (cut-remainders c.requires.0 c.requires.1 (zeros-replicate 144) (zeros-replicate 144) (zeros-replicate 128) (zeros-replicate 128) _ _
+    (rw (c.widen.ensures, c.widen-2.ensures) at c.add_product.ensures))
