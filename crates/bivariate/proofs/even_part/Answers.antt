@@ -14,7 +14,7 @@ use Rattle.bivariate.proofs.even_part.Goals.{In-loop-j}
 -- a turn: the row that is written lies apart from what is read
 
 apart : (c : In-loop-j) → Source c.args.r c.args.a (c.args.t + c.loop-j.j * c.args.h) c.args.h c.loop-j.w
-apart c = source_row _ _ c.loop-j.inv c.loop-j-test.true c.args.r c.args.a c.requires
+apart c = source_row _ _ c.loop-j.invariant c.loop-j-test.true c.args.r c.args.a c.requires
 
 pub loop-j-init : goal.loop-j-init
 loop-j-init c = rw zero-mul (filling_first _ _ _ _)
