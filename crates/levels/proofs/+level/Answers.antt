@@ -7,7 +7,7 @@ use borrow.Author.Rules.{rules}
 use Rattle.levels.specs.Graeffe.{Parts}
 use Rattle.levels.specs.Level.{Levelled, order-1, level_again, level_bounded, level_done, level_next, level_parts}
 use Rattle.levels.proofs.+level.Goals as goal
-use Rattle.levels.proofs.+level.Goals.{After-arrange-s, After-slice_known-4-1, Else-levels-eq0}
+use Rattle.levels.proofs.+level.Goals.{After-arrange-s, After-expand-up, Else-levels-eq0}
 
 -- a level that is not the last
 
@@ -15,18 +15,18 @@ deeper : {t : ℕ} → (c : Else-levels-eq0 t) → c.args.levels ≡ suc (c.args
 deeper c = omega arith
 
 parts : {t : ℕ} → (c : After-arrange-s t) → Parts c.args.p c.args.r c.arrange-s.result c.args.w.now
-parts c = level_parts c.requires (deeper (PLACE Else-levels-eq0 c)) c.arrange-s.ensures
+parts c =
+    let deep : c.args.levels ≡ suc (c.args.levels - 1) = omega arith in
+    level_parts c.requires deep c.arrange-s.ensures
 
 room : {t : ℕ} → (c : After-arrange-s t) → c.arrange-s.result.rest ≤ length c.args.w.now
 room c = omega (arith, (parts c))
 
-abbrev args : {t : ℕ} → (c : After-slice_known-4-1 t) → goal.Args c.lifetimes
-args c = c.args
-
-done : {t : ℕ} → (c : After-slice_known-4-1 t) → Levelled (args c).p (args c).levels (args c).r (args c).q (args c).d (args c).f.now (args c).w.now c.expand-up.new.w
+done : {t : ℕ} → (c : After-expand-up t) → Levelled c.args.p c.args.levels c.args.r c.args.q c.args.d c.args.f.now c.args.w.now c.expand-up.new.w
     (c.graeffe-down.result.places + c.level-below.result.places + c.expand-up.result.places)
 done c =
-    level_done c.requires (deeper (PLACE Else-levels-eq0 c)) c.arrange-s.ensures c.graeffe-down.ensures
+    let deep : c.args.levels ≡ suc (c.args.levels - 1) = omega arith in
+    level_done c.requires deep c.arrange-s.ensures c.graeffe-down.ensures
     c.level-below.ensures c.expand-up.ensures
 
 pub last-requires : goal.last-requires
@@ -70,10 +70,10 @@ expand-up-requires t c =
     c.level-below.ensures
 
 pub plus-requires : goal.plus-requires
-plus-requires t c = omega (arith, (done c).ranges)
+plus-requires t c = omega (arith, done (goal.at.plus-requires t c).After-expand-up)
 
 pub plus-requires-2 : goal.plus-requires-2
-plus-requires-2 t c = omega (arith, (done (goal.at.plus-requires-2 t c).After-slice_known-4-1).fits)
+plus-requires-2 t c = omega (arith, done (goal.at.plus-requires-2 t c).After-expand-up)
 
 pub returns : goal.returns
-returns t c = rw (c.plus-2.ensures, c.plus.ensures) (done (goal.at.returns t c).After-slice_known-4-1)
+returns t c = rw (c.plus-2.ensures, c.plus.ensures) (done (goal.at.returns t c).After-expand-up)
