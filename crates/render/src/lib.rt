@@ -1,4 +1,6 @@
 // The call render: the printed answer, measured and then written into the lent text buffer.
+#![tactic(auto)]
+
 ghost use Rattle.std.specs.Prelude.{length, ◌≡◌, ◌≤◌};
 ghost use Rattle.definition.specs.Calls.{Render};
 ghost use Rattle.definition.specs.Text.{rendered};

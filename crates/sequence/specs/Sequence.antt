@@ -8,6 +8,8 @@
 --   sequence_field                   p is a modulus and n an order that a call takes
 --   accepted_all                     what holds of all that were accepted before, and of the new one if it is, holds of all
 --   sequence_constant-free           no cycle that was accepted has a constant term
+--   sequence_accepted                one accepted call more: the running series is that of the cycles before it, and then of its own
+--   sequence_refused                 one refused call more: it is that of the cycles before it
 use Rattle.std.specs.Prelude.{ℕ, zero, suc, ◌<◌, ◌≤◌, ◌⊎◌, ◌≡◌, refl, length}
 use mathlib.Core.List.Memᴰ
 use mathlib.Core.List.{
@@ -100,3 +102,15 @@ sequence_constant-free (opened o e) = λ c m. absurd (Memᴰ.not-nil m)
 sequence_constant-free (called {chain} {s} {cs} before {route} {b} {number} {c = c} {work = work} q) =
     accepted_all (λ d. coefficient d 0 ≡ 0) number c cs (sequence_constant-free before)
     (λ e. (cycle-bounds route b chain c s (length work) (sym q.refusal ∙ e)).constant-free)
+
+pub sequence_accepted : {p n : ℕ} {chain : Chain} {s : List ℕ} {cs : List (List ℕ)} → Sequence p n chain s cs
+    → {route b weight : ℕ} {chain' : Chain} {c s' work work' : List ℕ} → Cycle route b chain c s s' work work' 0 weight chain'
+    → s' ≡ running p n (cs ++ (c ∷ []))
+unfolding accepted_after
+sequence_accepted before q = (sequence_running (called before q)).series
+
+pub sequence_refused : {p n : ℕ} {chain : Chain} {s : List ℕ} {cs : List (List ℕ)} → Sequence p n chain s cs
+    → {route b number weight : ℕ} {chain' : Chain} {c s' work work' : List ℕ} → Cycle route b chain c s s' work work' (suc number) weight chain'
+    → s' ≡ running p n cs
+unfolding accepted_after
+sequence_refused before q = (sequence_running (called before q)).series
