@@ -11,14 +11,14 @@ def listed():
     """The crates of crates.txt, each with what it depends on."""
     lines = (line.split("#")[0] for line in pathlib.Path("crates.txt").read_text().splitlines())
     rows = (line.split(":") for line in lines if line.strip())
-    return {name.strip(): rest.split() for name, rest in rows}
+    return {kind.split()[0]: rest.split() for kind, rest in rows}
 
 
 def used(crate):
     """The crates that the files of a crate name, and other words that stand where such a name may."""
     code = " ".join(file.read_text() for file in (CRATES / crate / "src").rglob("*.rt"))
     laws = code + " ".join(file.read_text() for file in (CRATES / crate).rglob("*.antt"))
-    return set(re.findall(r"\b(\w+)::", code)) | set(re.findall(r"Rattle·(\w+)\.", laws))
+    return set(re.findall(r"\b(\w+)::", code)) | set(re.findall(r"\bRattle\.(\w+)\.", laws))
 
 
 def main():

@@ -1,9 +1,9 @@
 """Every name that the tables of docs/TRACE.md and docs/GUARANTEES.md give in backquotes stands where it says, no row is open, and what a row says of
 its tests holds as far as it can be looked up.
 
-`File: a, B.part`         names of crates/definition/specs/File.antt
-`crate/File: a, b`        names of crates/crate/specs/File.antt
-`crate: a`                a name of one of the crate's specs
+`File: a, B.part`         names of crates/definition/specs/File.antt, or of proofs/File.antt there
+`crate/File: a, b`        names of crates/crate/specs/File.antt, or of proofs/File.antt there
+`crate: a`                a name of one of the crate's files of specs/, or right in proofs/
 `crate::module::a`, `b`   functions and types of the crate's sources; names listed after it belong to the same crate
 `crate!edit`              the must-fail edit of that name, of a crate or, as `definitions!edit` and `weights!edit`, of tests/
 `second: group`           a group of the second implementation's check of itself; `linked: group` one of tests/linked
@@ -26,7 +26,7 @@ KNOWN = [*GROUPED, "equations", "c-interface", "installed", "joiner", "job-tool"
 
 
 def declared(files):
-    """The names that specs declare: definitions, types, and the parts and cases of types."""
+    """The names that such files declare: definitions, theorems, types, and the parts and cases of types."""
     text = "\n".join(file.read_text() for file in files)
     return set(re.findall(rf"^\s*(?:pub |abbrev |unfoldable |data |record )*({NAME})(?= [:({{])", text, re.M))
 
@@ -37,13 +37,14 @@ def sources(crate):
     return set(re.findall(r"\b(?:fn|struct|enum) (\w+)", text))
 
 
-def missing_in_specs(place, names):
+def laws(crate, file):
+    """The files of this name, or pattern, in which a crate declares definitions and theorems."""
+    return [found for part in ["specs", "proofs"] for found in sorted((CRATES / crate / part).glob(f"{file}.antt"))]
+
+
+def missing_in_laws(place, names):
     crate, _, file = place.rpartition("/")
-    folder = CRATES / (crate or "definition") / "specs"
-    files = [folder / f"{file}.antt"]
-    if not files[0].is_file():
-        files = sorted((CRATES / place / "specs").glob("*.antt"))
-    known = declared(files) if files else set()
+    known = declared(laws(crate or "definition", file) or laws(place, "*"))
     parts = [part for name in names.split(",") for part in name.strip().split(".")]
     return [f"{place}: {part}" for part in parts if part not in known]
 
@@ -69,7 +70,7 @@ def missing_in_row(row):
         read += len(names)
     for place, names in re.findall(rf"`([A-Za-z_]+(?:/[A-Za-z]+)?): ({NAME}(?:, {NAME})*)`", row):
         if place not in GROUPED:
-            missing += missing_in_specs(place, names)
+            missing += missing_in_laws(place, names)
             read += len(names.split(","))
     return missing, read
 

@@ -52,7 +52,7 @@ def closed(first, uses):
 
 def read(equations):
     uses = definitions()
-    laws = [law for file in equations.glob("*/specs/*.antt") for law in re.findall(r"^laws\d+ : (.*)$", file.read_text(), re.M)]
+    laws = [law for file in equations.glob("*/proofs/*.antt") for law in re.findall(r"^laws\d+ : (.*)$", file.read_text(), re.M)]
     named = set(re.findall(WORD, " ".join(laws))) & uses.keys()
     reached = closed(named, lambda name: uses[name] & uses.keys())
     # a promise is no function: it is reached by what it is made of
