@@ -14,35 +14,49 @@ EDITS = pathlib.Path(__file__).parent / "must-fail"
 REFUSAL = "error[private-field]: field `places` of struct `Weight` is private"
 
 
-def copied(repository, room):
-    """The crates, and what is proved of them."""
+def below(repository, crate):
+    """The crate and those that it stands on, with what crates.txt says of each."""
+    lines = [line.split("#")[0].strip() for line in (repository / "crates.txt").read_text(encoding="utf-8").splitlines()]
+    rows = {line.partition(":")[0].split()[0]: line for line in lines if line}
+    found, rest = {}, [crate]
+    while rest:
+        name = rest.pop()
+        if name in rows and name not in found:
+            found[name] = rows[name]
+            rest += rows[name].partition(":")[2].split()
+    return found
+
+
+def copied(repository, room, crate):
+    """The crates, and what is kept of their proofs."""
     shutil.rmtree(room, ignore_errors=True)
-    for part in ["crates", "target/rlib", "target/stamp"]:
-        shutil.copytree(repository / part, room / part)
-    shutil.copy(repository / "crates.txt", room)
+    rows = below(repository, crate)
+    for name in rows:
+        shutil.copytree(repository / "crates" / name, room / "crates" / name)
+    (room / "crates.txt").write_text("\n".join(rows.values()) + "\n", encoding="utf-8")
 
 
-def check(room, crate):
+def check(folder):
     """Whether the crate is admitted, and what is said of it."""
-    done = subprocess.run(["rt", "check", crate], cwd=room, capture_output=True, text=True)
-    return done.returncode == 0, done.stdout + done.stderr
+    done = subprocess.run(["rt", "check"], cwd=folder, capture_output=True, text=True)
+    return done.returncode == 0, (done.stdout + done.stderr).splitlines()
 
 
 def tried(repository, room, edit):
-    """Makes the edit in a copy, and says whether the compiler refused it for the private field. Each edit has a copy of its own, since a
-    crate that was refused would have to be proved again."""
-    copied(repository, room)
+    """Makes the edit in a copy, and says whether the compiler refused it for the private field."""
     name, old, new = (line.split(": ", 1)[1] for line in edit.read_text(encoding="utf-8").splitlines())
-    crate = name.split("/")[0]
-    file = room / "crates" / name
+    crate, _, inside = name.partition("/")
+    copied(repository, room, crate)
+    folder = room / "crates" / crate
+    file = folder / inside
     text = file.read_text(encoding="utf-8")
     if text.count(old) != 1:
         return False, f"its old text stands {text.count(old)} times in {name}"
-    if not check(room, crate)[0]:
+    if not check(folder)[0]:
         return False, f"{crate} is not admitted without it"
     file.write_text(text.replace(old, new), encoding="utf-8")
-    admitted, said = check(room, crate)
-    refused = not admitted and f"{file}:" in said and REFUSAL in said
+    admitted, said = check(folder)
+    refused = not admitted and any(line.startswith(f"{inside}:") and line.endswith(REFUSAL) for line in said)
     return refused, f"refused: {REFUSAL}" if refused else "NOT REFUSED AS IT MUST BE"
 
 
@@ -53,6 +67,7 @@ def main(repository, room):
         ok, line = tried(repository, room, edit)
         passed += ok
         print(f"{edit.stem}: {line}", flush=True)
+    shutil.rmtree(room, ignore_errors=True)
     print(f"{passed} passed, {len(edits) - passed} failed")
     return 0 if edits and passed == len(edits) else 1
 
