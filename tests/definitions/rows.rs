@@ -40,9 +40,7 @@ pub fn all(random: &mut Random) -> Vec<String> {
         equations.push(late(random));
         equations.push(text(random));
     }
-    equations.extend(
-        (0..120).map(|p| format!("is_prime {p} ≡ {}", primes::is_prime(p))),
-    );
+    equations.extend((0..120).map(|p| format!("is_prime {p} ≡ {}", primes::is_prime(p))));
     equations
 }
 
