@@ -3,7 +3,6 @@
 --   reversion-reverse     the definition's `Reversion` says that the series of h is a reverse of the series of g
 --   reverse-reversion     and a list of n places below p whose series is such a reverse satisfies it
 --   reversion_unique      there is at most one reverse series
---   reversion-symmetric   it is one from the other side too: h(g) is x modulo x^n
 --   reversion-none        where `irreversible` is true there is none
 --   composed-identity     f(x) is f, for a list of n places below p
 --   composed-undone       f(g(h)) is f, where h has no constant term and g(h) is x modulo x^n
@@ -11,7 +10,7 @@ use Prim.Native.Nat.{ℕ, zero, suc, ◌<◌}
 use Rattle.std.specs.Prelude.{List, ltb, eqb, true, false, ◌≢◌, ◌≡◌, length}
 use Rattle.std.proofs.Common.{ltb-true, eqb-true, ap, ◌∙◌, mod-eq_of_lt, arith}
 use Rattle.std.proofs.Math.Bool.{and-eq-true_iff}
-use Rattle.std.proofs.Math.Path.{refl, sym}
+use Rattle.std.proofs.Math.Path.{sym}
 use Rattle.algebra.specs.Bounded.{below}
 use Rattle.algebra.specs.Bridge.{
   series_of,
@@ -29,9 +28,9 @@ use Rattle.algebra.specs.Composition.{composed_assoc, series-constant, value-ind
 use Rattle.algebra.specs.Evaluate.{evaluate_agree}
 use Rattle.algebra.specs.Homomorphism.{coefficients-at}
 use Rattle.algebra.specs.Residue.{residues, residues_negation, residue-zero, residue-0, residue-1, reduction}
-use Rattle.algebra.specs.Reversion.{Reverse, reverse-constant, reverse-linear-nonzero, reverse-evaluate, reverse_unique, reverse_sym}
+use Rattle.algebra.specs.Reversion.{Reverse, reverse-constant, reverse-linear-nonzero, reverse-evaluate, reverse_unique}
 use Rattle.algebra.specs.Series.{indeterminate}
-use Rattle.definition.specs.Lists.{coefficient, tabulate}
+use Rattle.definition.specs.Lists.{coefficient}
 use Rattle.definition.specs.Refusal.{irreversible, exceeds}
 use Rattle.definition.specs.Reversion.{Reversion, identity}
 use Rattle.definition.specs.Substitution.{composed}
@@ -73,17 +72,6 @@ module _ {p : ℕ} (l : 0 < p) (above : 1 < p) where
       sym (own h r.places r.below)
       ∙ listed_agree (reverse_unique (residues l) (residues_negation l) n (reversion-reverse g h r) (reversion-reverse g k s))
       ∙ own k s.places s.below
-
-  pub reversion-symmetric : (n : ℕ) (g h : List ℕ) → Reversion p n g h → composed p n h g ≡ identity n
-  unfolding coefficient composed identity tabulate
-  reversion-symmetric zero g h r = refl
-  reversion-symmetric (suc n) g h r =
-      let s = reversion-reverse g h r in
-      let z = reverse-constant (residues l) s in
-      composed-listed l (suc n) h g
-      ∙ listed_agree
-      ((reverse-evaluate (reduction l) h (series_of l g) z).1 (reverse_sym (residues l) (residues_negation l) (suc n) z s))
-      ∙ sym (identity-listed l (suc n) above)
 
   -- a coefficient below p whose residue is 𝟘 is 0
   zero_of : (g : List ℕ) → exceeds p g ≡ false → (i : ℕ) → series_of l g i ≡ (residues l).𝟘 → coefficient g i ≡ 0

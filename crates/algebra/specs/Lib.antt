@@ -14,14 +14,15 @@
 --   Residue Frobenius Fermat                     residues modulo p; the p-th power; Fermat and inverses
 -- Routes, equal answers, reversion
 --   Parts                                        route 3: a list by powers modulo p
---   Plane Graeffe Geometric KinoshitaLi          route 4: two variables, Q(x, y) Q(-x, y), P / (1 - y g), the level and the recursion
+--   Plane Graeffe Geometric KinoshitaLi          route 4: two variables, Q(x, y) Q(-x, y), P / (1 - y g), the levels
 --   Taylor Vanishing Valuation                   powers of (z - c), and when a value vanishes below n
---   Reversion                                    the reverse series: unique, from both sides, and the Newton step
+--   Reversion                                    the reverse series: unique, and the Newton step
 -- The bridge to the definitions
 --   Lists Effective Bounded Bridge               tables; the effective length; places below p; lists as series over the residues
 --   Composition Inverse                          the laws of composition and of reversion on lists
 --   Rows PlaneBridge                             lists in rows; these as series in two variables over the residues
 --   Halvings KinoshitaLiLists                    the number of halvings; route 4 on lists
+-- What rests on the Newton step, on spreading and on the levels stands in proofs/.
 pub mod Semiring
 pub mod Negation
 pub mod Power

@@ -14,32 +14,12 @@
 --   reverse_unique        two reverses below n agree below n
 --   newton N h s          Newton's step h - (s - x) h', where s is g(h)
 --   newton_step_lem           it takes a reverse below k + 1 to one below 2k + 1
---   newton_cut            the same below m ≤ 2k + 1, where s and the result are known below m
 --   newton_window         where s is x below i, the step leaves h as it is there, and only the powers of s from i on take part
---   reverse_exists        if g_0 is 𝟘 and g_1 has an inverse, then there is a reverse below every n
---   reverse_sym           g is a reverse of h if h is one of g
 use Rattle.std.specs.Prelude.{ℕ, zero, suc, ◌+◌, ◌-◌, ◌<◌, ◌≤◌, List, ◌↔◌, ◌≢◌, ◌≡◌}
 use Rattle.std.proofs.Common.{sym, ap, ◌∙◌, zero-add, arith}
 use Rattle.std.proofs.Math.Path.{fun_ext}
 use Rattle.std.proofs.Math.Decide.{dec_lt}
-use Rattle.algebra.specs.Agree.{
-  Agree,
-  Vanish,
-  agree_1,
-  agree_suc,
-  agree_neg,
-  agree_refl,
-  agree_sym,
-  agree_⊞_vanish,
-  agree_difference,
-  vanish_neg,
-  vanish_multiple,
-  agree_trans,
-  agree_weaken,
-  agree_⊞,
-  agree_⊠,
-  vanish_⊠,
-}
+use Rattle.algebra.specs.Agree.{Agree, Vanish, agree_1, agree_suc, agree_sym, agree_⊞_vanish, agree_difference, vanish_neg, vanish_multiple, agree_trans, agree_weaken, vanish_⊠}
 use Rattle.algebra.specs.Cut.{window, ⊠-window}
 use Rattle.algebra.specs.Derivative.{
   derivative,
@@ -53,37 +33,9 @@ use Rattle.algebra.specs.Derivative.{
 use Rattle.algebra.specs.Evaluate.{evaluate, polynomial}
 use Rattle.algebra.specs.Homomorphism.{Homomorphism, coefficients, composite, constants}
 use Rattle.algebra.specs.Negation.{Negation, add-difference, equal_by_difference, neg-𝟘, neg-⊕, ⊕_cancel, ⊕-neg_cancel, ⊗-neg}
-use Rattle.algebra.specs.Semiring.{Semiring, 𝟘-⊕, ⊕-𝟘, 𝟘-⊗, ⊗-𝟘, 𝟙-⊗, ⊗-𝟙, ⊕_assoc, ⊗_assoc, ⊗_comm, ⊗-left_comm, ⊗-⊕}
-use Rattle.algebra.specs.Series.{
-  Series,
-  constant,
-  constant-0,
-  constant-suc,
-  indeterminate,
-  indeterminate-0,
-  indeterminate-above,
-  indeterminate-shift,
-  neg-at,
-  series,
-  series_negation,
-  shift,
-  shift-0,
-  shift_suc,
-  𝟙-constant,
-  ⊞-at,
-  ⊠-0,
-  ⊠-suc,
-}
-use Rattle.algebra.specs.Substitution.{
-  substitute,
-  substitute-0,
-  substitute_agree,
-  substitute_assoc_agree,
-  substitute-coefficients,
-  substitute_horner,
-  substitute-indeterminate,
-  substitute_into_indeterminate,
-}
+use Rattle.algebra.specs.Semiring.{Semiring, 𝟘-⊕, ⊕-𝟘, 𝟘-⊗, ⊗-𝟘, 𝟙-⊗, ⊗-𝟙, ⊕_assoc, ⊗_assoc, ⊗-left_comm, ⊗-⊕}
+use Rattle.algebra.specs.Series.{Series, constant-0, constant-suc, indeterminate, indeterminate-0, indeterminate-above, indeterminate-shift, neg-at, series, series_negation, shift_suc, 𝟙-constant, ⊞-at, ⊠-0, ⊠-suc}
+use Rattle.algebra.specs.Substitution.{substitute, substitute-0, substitute_agree, substitute-coefficients, substitute_horner}
 use Rattle.algebra.specs.Vanishing.{⊠_lowest}
 
 pub record Reverse {A : Type 0} (R : Semiring A) (n : ℕ) (g h : Series A) : Type 0 where
@@ -240,14 +192,6 @@ module _ {A : Type 0} (R : Semiring A) where
             (ap (λ t. t ⊞ neg (e ⊠ derivative R t)) (sym (add-difference (series R) (series_negation R N) _ (indeterminate R)))
             ∙ newton_error e)
 
-    pub newton_cut : {k m : ℕ} {g h s t : Series A} → Reverse R (suc k) g h → m ≤ k + suc k
-        → Agree m s (substitute R g h) → t 0 ≡ 𝟘 → Agree m t (newton h s) → Reverse R m g t
-    newton_cut {m} {g} {h} {s} {t} r l a e b =
-        let step : Agree m (newton h s) (newton h (substitute R g h)) =
-        agree_⊞ R (agree_refl h)
-        (agree_neg R N (agree_⊠ R (agree_⊞ R a (agree_refl _)) (agree_refl (derivative R h)))) in
-        reverse_agree e (agree_refl g) (agree_trans b step) (reverse_weaken l (newton_step_lem r))
-
     pub newton_window : {i m : ℕ} {h s t : Series A} → 1 < i → Agree i s (indeterminate R) → Agree i t h
         → Agree m (window i t) (window i h ⊞ neg (window i s ⊠ derivative R h)) → Agree (i + m) t (newton h s)
     newton_window {i} {m} {h} {s} {t} above known low high k l = at (dec_lt k i)
@@ -269,28 +213,3 @@ module _ {A : Type 0} (R : Semiring A) where
         at : Dec (k < i) → t k ≡ newton h s k
         at (yes b) = low k b ∙ sym (agree_⊞_vanish R h (vanish_neg R N (vanish_multiple R (derivative R h) error)) k b)
         at (no b) = let j : i + (k - i) ≡ k = omega arith in rw j at (late (k - i) (omega arith))
-
-    module _ (g : Series A) (c : A) (g_0 : g 0 ≡ 𝟘) (unit : c ⊗ g 1 ≡ 𝟙) where
-      newton_iterate : (n : ℕ) → (h : Series A) × Reverse R (suc (suc n)) g h
-      newton_iterate zero = (
-        shift R (constant R c),
-        reverse-below-2 g_0 (shift-0 R (constant R c)) (rw (shift_suc, constant-0) unit),
-      )
-      newton_iterate (suc n) =
-          let (h, r) = newton_iterate n in
-          (newton h (substitute R g h), reverse_weaken (omega arith) (newton_step_lem r))
-
-      pub reverse_exists : (n : ℕ) → (h : Series A) × Reverse R n g h
-      reverse_exists n = let (h, r) = newton_iterate n in (h, reverse_weaken (omega arith) r)
-
-    pub reverse_sym : (n : ℕ) {g h : Series A} → g 0 ≡ 𝟘 → Reverse R n g h → Reverse R n h g
-    reverse_sym zero g_0 r = record { no_constant = g_0; reverses = λ i l. absurd (omega arith) }
-    reverse_sym (suc zero) g_0 r = reverse-below-1 r.no_constant g_0
-    reverse_sym (suc (suc n)) {g} {h} g_0 r =
-        let unit : g 1 ⊗ h 1 ≡ 𝟙 = ⊗_comm R (g 1) (h 1) ∙ reverse-linear r in
-        let (k, s) = reverse_exists h (g 1) r.no_constant unit (suc (suc n)) in
-        let a : Agree (suc (suc n)) k g =
-        rw (substitute-indeterminate R k s.no_constant, substitute_into_indeterminate R g) at
-        (substitute_assoc_agree R g h k r.no_constant s.no_constant (agree_sym r.reverses)
-        (agree_sym s.reverses)) in
-        reverse_agree g_0 (agree_refl h) (agree_sym a) s

@@ -18,7 +18,7 @@ use Rattle.std.proofs.lemmas.List.Edits.{sets}
 use Rattle.std.proofs.lemmas.List.{drop-append-le, take-append-le}
 use Rattle.algebra.specs.Composition.{composed-constant}
 use Rattle.algebra.specs.Halvings.{halvings-covers}
-use Rattle.algebra.specs.KinoshitaLiLists.{levels-list-composed}
+use Rattle.algebra.proofs.KinoshitaLiLists.{levels-list-composed}
 use Rattle.algebra.specs.Lists.{coefficient_beyond, length-tabulate}
 use Rattle.algebra.specs.Rows.{length-plane}
 use Rattle.definition.specs.KinoshitaLi.{denominator, plane}

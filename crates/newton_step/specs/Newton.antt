@@ -37,7 +37,8 @@ use Rattle.algebra.specs.Residue.{
   residues,
   residues_negation,
 }
-use Rattle.algebra.specs.Reversion.{Reverse, newton, newton_cut, newton_window, reverse_agree}
+use Rattle.algebra.proofs.Newton.{newton_cut}
+use Rattle.algebra.specs.Reversion.{Reverse, newton, newton_window, reverse_agree}
 use Rattle.algebra.specs.Series.{Series, indeterminate, neg-at, series_negation, ⊞-at}
 use Rattle.algebra.specs.Substitution.{substitute, substitute-coefficients}
 use Rattle.buffer.specs.Segments.{segment, coefficient-segment}

@@ -7,7 +7,8 @@
 use Rattle.std.specs.Prelude.{ℕ, ◌<◌, eqb, ltb, false, not, ◌&&◌, length, List, ◌≢◌, ◌≡◌, refl}
 use Rattle.std.proofs.lemmas.Bool.{eqb-false, not-false}
 use Rattle.std.proofs.Common.{eqb-true, lt-ltb, arith, sym, ◌∙◌}
-use Rattle.algebra.specs.Inverse.{reversion-none, reversion-symmetric, reversion_unique}
+use Rattle.algebra.proofs.Inverse.{reversion-symmetric}
+use Rattle.algebra.specs.Inverse.{reversion-none, reversion_unique}
 use Rattle.algebra.specs.Prime.{prime-positive}
 use Rattle.definition.specs.Answer.{cleared}
 use Rattle.definition.specs.Calls.{Reverse}
