@@ -8,10 +8,10 @@ use crate::promises;
 use crate::rows::list;
 use crate::written::Law;
 
-const WRITTEN: &str = "Rattle.primes.specs.Table.table-written";
-const LARGEST: &str = "Rattle.primes.specs.Largest.largest-prime";
-const TAKEN: &str = "Rattle.primes.specs.Largest.largest_taken";
-const BEYOND: &str = "Rattle.primes.specs.Largest.beyond_refused";
+const WRITTEN: &str = "Rattle.primes.proofs.Table.table-written";
+const LARGEST: &str = "Rattle.primes.proofs.Largest.largest-prime";
+const TAKEN: &str = "Rattle.primes.proofs.Largest.largest_taken";
+const BEYOND: &str = "Rattle.primes.proofs.Largest.beyond_refused";
 
 pub fn all(random: &mut Random) -> Vec<Law> {
     let mut laws = table();
