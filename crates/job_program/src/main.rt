@@ -1,5 +1,7 @@
-// The job program: reads a job file from standard input and writes the answer to standard output.
+// The job program: reads a job file from standard input and writes the answer to standard output. Its status is 0 always; where a read or a
+// write fails, the reason stands on standard error.
 #![tactic(auto)]
+
 ghost use Rattle.std.specs.Prelude.{◌≤◌, length, IfOk};
 
 use std::io;
@@ -27,9 +29,31 @@ fn write_answer(output: &mut impl Write, file: &[u8]) -> io::Result<()> {
     output.write_all(&text[..count])
 }
 
+// The system's words for an error, which stand before its number.
+fn words(text: &str) -> &str {
+    match text.split_once(" (os error ") {
+        Some((before, _number)) => before,
+        None => text,
+    }
+}
+
+// Says on standard error which stream failed, and why.
+fn tell<R: Eprint + Alloc>(rt: &R, stream: &str, error: io::Error) -> io::Result<()> {
+    let text = format!(in rt.alloc(); "{error}")?;
+    let reason = words(text.as_str());
+    eprintln!(rt; "{stream}: {reason}")
+}
+
 // The buffer has a byte more than the longest file, so that a longer one shows.
-fn main(rt: HostRuntime) -> io::Result<()> {
+fn main(rt: HostRuntime) {
     let mut file = [0u8; job_file::MOST_BYTES + 1];
-    let count = read_input(&mut rt.stdin(), &mut file)?;
-    write_answer(&mut rt.stdout(), &file[..count])
+    let told = match read_input(&mut rt.stdin(), &mut file) {
+        Ok(count) => match write_answer(&mut rt.stdout(), &file[..count]) {
+            Ok(()) => Ok(()),
+            Err(error) => tell(&rt, "standard output", error),
+        },
+        Err(error) => tell(&rt, "standard input", error),
+    };
+    // where standard error fails too, nothing is left to say
+    let _ = told;
 }
