@@ -1,8 +1,6 @@
 -- `horner::horner_part` meets its contract: before each turn the coefficients from place i on are taken. Assumes nothing.
-use borrow.Author.Rules.{rules}
 use native.Mathlib.Omega.{arith}
-use Prim.Native.Nat.{ℕ, suc, ◌-◌, ◌%◌}
-use mathlib.Core.List.{List}
+use Prim.Native.Nat.{suc, ◌-◌, ◌%◌}
 use mathlib.Core.Path.{◌≡◌}
 use lib.ListN.{length}
 use lib.Seq.{sets}
