@@ -1,15 +1,14 @@
 -- Trial division by the numbers prime to 30, eight of each thirty, from 7 on.
 --
 --   steps          from each of the eight to the next one
+--   Step d s r     the step s from d leads to the remainder r
+--   step           each of the eight does
 --   Wheel p d i    before d is tried, number i of the eight: d is above 5, and no number from 2 to d - 1 divides p
 --   wheel_seven    before 7 is tried
---   wheel_room     a step is above 0, and a step from d is at most p while the square of d is
---   wheel_next     d does not divide p: on to the next one
 -- Assumes nothing.
-use Rattle.std.specs.Prelude.{ℕ, zero, suc, ◌+◌, ◌*◌, ◌%◌, ◌<◌, ◌≤◌, get_or, List, [], ◌∷◌, ◌≢◌, ◌≡◌}
-use Rattle.std.proofs.Math.Decide.{dec_lt}
+use Rattle.std.specs.Prelude.{ℕ, zero, suc, ◌+◌, ◌%◌, ◌<◌, ◌≤◌, get_or, List, [], ◌∷◌, ◌≢◌, ◌≡◌}
 use Rattle.std.proofs.Common.{arith}
-use Rattle.field.specs.Trial.{Tried, tried-next, tried-room, tried-three, undivided_by}
+use Rattle.field.specs.Trial.{Tried, tried-next, tried-three}
 
 unfoldable pub steps : List ℕ
 steps = 4 ∷ 2 ∷ 4 ∷ 2 ∷ 4 ∷ 6 ∷ 2 ∷ 6 ∷ []
@@ -19,13 +18,13 @@ unfoldable pub remainders : List ℕ
 remainders = 7 ∷ 11 ∷ 13 ∷ 17 ∷ 19 ∷ 23 ∷ 29 ∷ 1 ∷ []
 
 -- the step s from d leads to the remainder r, and 3 or 5 divides each odd number between
-record Step (d s r : ℕ) : Type 0 where
-  even : s % 2 ≡ 0
-  positive : 0 < s
-  short : s ≤ 6
-  leads : (d + s) % 30 ≡ r
-  second : 2 < s → (d + 2) % 3 ≢ 0 → (d + 2) % 5 ≢ 0 → ⊥
-  third : 4 < s → (d + 2 + 2) % 3 ≢ 0 → (d + 2 + 2) % 5 ≢ 0 → ⊥
+pub record Step (d s r : ℕ) : Type 0 where
+  pub even : s % 2 ≡ 0
+  pub positive : 0 < s
+  pub short : s ≤ 6
+  pub leads : (d + s) % 30 ≡ r
+  pub second : 2 < s → (d + 2) % 3 ≢ 0 → (d + 2) % 5 ≢ 0 → ⊥
+  pub third : 4 < s → (d + 2 + 2) % 3 ≢ 0 → (d + 2 + 2) % 5 ≢ 0 → ⊥
 
 -- P of each number below n
 abbrev Each : ℕ → (ℕ → Type 0) → Type 0
@@ -37,7 +36,7 @@ each_below zero P every i l = absurd (omega arith)
 each_below (suc n) P every zero l = every.0
 each_below (suc n) P every (suc i) l = each_below n (λ i. P (suc i)) every.1 i (omega arith)
 
-step : (d i : ℕ) → i < 8 → d % 30 ≡ get_or remainders i 0 → Step d (get_or steps i 0) (get_or remainders ((i + 1) % 8) 0)
+pub step : (d i : ℕ) → i < 8 → d % 30 ≡ get_or remainders i 0 → Step d (get_or steps i 0) (get_or remainders ((i + 1) % 8) 0)
 unfolding steps remainders
 step d =
     each_below 8 (λ i. d % 30 ≡ get_or remainders i 0 → Step d (get_or steps i 0) (get_or remainders ((i + 1) % 8) 0)) (search arith)
@@ -57,39 +56,3 @@ wheel_seven p l two three five =
       within = omega arith;
       place = omega arith;
     }
-
-module _ {p d i : ℕ} (w : Wheel p d i) where
-  from_here : Step d (get_or steps i 0) (get_or remainders ((i + 1) % 8) 0)
-  from_here = step d i w.within w.place
-
-  pub wheel_room : d * d ≤ p → (0 < get_or steps i 0) × (d + get_or steps i 0 ≤ p)
-  wheel_room square =
-      (from_here.positive, omega (arith, from_here.short, w.past_five, tried-room w.tried square))
-
-  -- a number that 3 or 5 divides does not divide p, since they do not
-  passed : (k : ℕ) → (k % 3 ≢ 0 → k % 5 ≢ 0 → ⊥) → p % k ≢ 0
-  passed k divided e = divided (free 3 (omega arith) (omega arith)) (free 5 (omega arith) (omega arith))
-    where
-      free : (q : ℕ) → 1 < q → q ≤ 5 → k % q ≢ 0
-      free q low high = undivided_by p k q (w.tried.undivided q low (omega (arith, w.past_five))) e
-
-  pub wheel_next : p % d ≢ 0 → Wheel p (d + get_or steps i 0) ((i + 1) % 8)
-  wheel_next here =
-      record {
-        tried = go (get_or steps i 0) from_here (dec_lt 2 (get_or steps i 0)) (dec_lt 4 (get_or steps i 0));
-        past_five = omega (arith, w.past_five);
-        within = omega arith;
-        place = from_here.leads;
-      }
-    where
-      one : Tried p (d + 2)
-      one = tried-next w.tried here
-
-      go : (s : ℕ) → Step d s (get_or remainders ((i + 1) % 8) 0) → Dec (2 < s) → Dec (4 < s) → Tried p (d + s)
-      go s f (no a) _ = let e : d + s ≡ d + 2 = omega (arith, f.even, f.positive) in rw e one
-      go s f (yes a) (no b) =
-          let e : d + s ≡ d + 2 + 2 = omega (arith, f.even) in
-          rw e (tried-next one (passed (d + 2) (f.second a)))
-      go s f (yes a) (yes b) =
-          let e : d + s ≡ d + 2 + 2 + 2 = omega (arith, f.even, f.short) in
-          rw e (tried-next (tried-next one (passed (d + 2) (f.second a))) (passed (d + 2 + 2) (f.third b)))

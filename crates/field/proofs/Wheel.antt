@@ -1,0 +1,46 @@
+-- Trial division by the numbers prime to 30: on from one number to the next, by `step`.
+--
+--   wheel_room     a step is above 0, and a step from d is at most p while the square of d is
+--   wheel_next     d does not divide p: on to the next one
+-- Assumes nothing.
+use Rattle.std.specs.Prelude.{ℕ, ◌+◌, ◌*◌, ◌%◌, ◌<◌, ◌≤◌, get_or, ◌≢◌, ◌≡◌}
+use Rattle.std.proofs.Math.Decide.{dec_lt}
+use Rattle.std.proofs.Common.{arith}
+use Rattle.field.specs.Trial.{Tried, tried-next, tried-room, undivided_by}
+use Rattle.field.specs.Wheel.{Step, Wheel, remainders, step, steps}
+
+module _ {p d i : ℕ} (w : Wheel p d i) where
+  from_here : Step d (get_or steps i 0) (get_or remainders ((i + 1) % 8) 0)
+  from_here = step d i w.within w.place
+
+  pub wheel_room : d * d ≤ p → (0 < get_or steps i 0) × (d + get_or steps i 0 ≤ p)
+  wheel_room square =
+      (from_here.positive, omega (arith, from_here.short, w.past_five, tried-room w.tried square))
+
+  -- a number that 3 or 5 divides does not divide p, since they do not
+  passed : (k : ℕ) → (k % 3 ≢ 0 → k % 5 ≢ 0 → ⊥) → p % k ≢ 0
+  passed k divided e = divided (free 3 (omega arith) (omega arith)) (free 5 (omega arith) (omega arith))
+    where
+      free : (q : ℕ) → 1 < q → q ≤ 5 → k % q ≢ 0
+      free q low high = undivided_by p k q (w.tried.undivided q low (omega (arith, w.past_five))) e
+
+  pub wheel_next : p % d ≢ 0 → Wheel p (d + get_or steps i 0) ((i + 1) % 8)
+  wheel_next here =
+      record {
+        tried = go (get_or steps i 0) from_here (dec_lt 2 (get_or steps i 0)) (dec_lt 4 (get_or steps i 0));
+        past_five = omega (arith, w.past_five);
+        within = omega arith;
+        place = from_here.leads;
+      }
+    where
+      one : Tried p (d + 2)
+      one = tried-next w.tried here
+
+      go : (s : ℕ) → Step d s (get_or remainders ((i + 1) % 8) 0) → Dec (2 < s) → Dec (4 < s) → Tried p (d + s)
+      go s f (no a) _ = let e : d + s ≡ d + 2 = omega (arith, f.even, f.positive) in rw e one
+      go s f (yes a) (no b) =
+          let e : d + s ≡ d + 2 + 2 = omega (arith, f.even) in
+          rw e (tried-next one (passed (d + 2) (f.second a)))
+      go s f (yes a) (yes b) =
+          let e : d + s ≡ d + 2 + 2 + 2 = omega (arith, f.even, f.short) in
+          rw e (tried-next (tried-next one (passed (d + 2) (f.second a))) (passed (d + 2 + 2) (f.third b)))
