@@ -4,7 +4,7 @@ use mathlib.Core.Path.{sym, ◌∙◌}
 use native.Mathlib.Omega.{arith}
 use Rattle.definition.specs.Prime.{largest_modulus}
 use Rattle.field.specs.Opening.{prime_taken, refused-modulus, taken_modulus}
-use Rattle.primes.specs.Table.{member-prime}
+use Rattle.primes.proofs.Table.{member-prime}
 use Rattle.refusal_tests.proofs.bad_modulus.Goals as goal
 
 pub returns-then-in_table : goal.returns-then-in_table
