@@ -2,22 +2,16 @@
 -- Assumes nothing.
 --
 --   undone             two accepted cycles, one after the other, leave the running series that the first was given
---   sequence_undone    so do the last two cycles accepted of a sequence, whatever calls were refused between and after
---   sequence_reversed  so it is in a sequence with what an accepted reverse wrote
---   reverse-undone     and with two cycles of any chain
-use Rattle.std.specs.Prelude.{ℕ, List, [], ◌∷◌, ◌++◌, ◌≡◌, refl, length}
-use mathlib.Core.List.Memᴰ
+use Rattle.std.specs.Prelude.{ℕ, List, ◌≡◌, length}
 use Rattle.std.proofs.Common.{sym, ◌∙◌}
 use Rattle.algebra.specs.Inverse.{composed-undone}
 use Rattle.algebra.specs.Prime.{prime-positive}
 use Rattle.definition.specs.Answer.{kept}
-use Rattle.definition.specs.Calls.{Cycle, Reverse}
+use Rattle.definition.specs.Calls.{Cycle}
 use Rattle.definition.specs.Chain.{Chain, next_chain}
 use Rattle.definition.specs.Reversion.{identity}
 use Rattle.definition.specs.Substitution.{composed}
 use Rattle.refusal.specs.Bounds.{cycle-bounds}
-use Rattle.sequence.specs.Running.{running-undone}
-use Rattle.sequence.specs.Sequence.{Sequence, sequence_constant-free, sequence_field, sequence_running}
 
 pub undone : {route₁ b₁ weight₁ route₂ b₂ weight₂ : ℕ} {chain chain₁ chain₂ : Chain} {c h s s₁ s₂ work₁ work₁' work₂ work₂' : List ℕ}
     → Cycle route₁ b₁ chain c s s₁ work₁ work₁' 0 weight₁ chain₁ → Cycle route₂ b₂ chain₁ h s₁ s₂ work₂ work₂' 0 weight₂ chain₂
@@ -29,24 +23,3 @@ undone {route₁} {b₁} {route₂ = route₂} {b₂ = b₂} {chain = chain} {ch
     let prime = before.field.prime in
     (rw (first.records, first.running) at second.running)
     ∙ composed-undone (prime-positive prime) prime.above-one s c h before.running before.below-outer free reverses
-
-pub sequence_undone : {p n : ℕ} {chain chain' : Chain} {s s' : List ℕ} {cs : List (List ℕ)} (c h : List ℕ) → Sequence p n chain s cs
-    → Sequence p n chain' s' (cs ++ (c ∷ h ∷ [])) → composed p n c h ≡ identity n → s' ≡ s
-sequence_undone {n = n} {cs = cs} c h before after reverses =
-    let prime = (sequence_field before).prime in
-    (sequence_running after).series
-    ∙ running-undone (prime-positive prime) n prime.above-one cs c h (λ d m. sequence_constant-free after d (Memᴰ.append_right cs m)) reverses
-    ∙ sym (sequence_running before).series
-
-pub sequence_reversed : {p n weight : ℕ} {chain chain' : Chain} {c h s s' out work work' : List ℕ} {cs : List (List ℕ)}
-    → Sequence p n chain s cs → Reverse p n c out h work work' 0 weight → Sequence p n chain' s' (cs ++ (c ∷ h ∷ [])) → s' ≡ s
-sequence_reversed {c = c} {h = h} before q after = sequence_undone c h before after (q.reverses refl).reverses
-
-pub reverse-undone : {number₀ weight₀ route₁ b₁ number₁ weight₁ route₂ b₂ number₂ weight₂ : ℕ} {chain chain₁ chain₂ : Chain}
-    {c h out s s₁ s₂ work₀ work₀' work₁ work₁' work₂ work₂' : List ℕ}
-    → Reverse chain.modulus chain.order c out h work₀ work₀' number₀ weight₀
-    → Cycle route₁ b₁ chain c s s₁ work₁ work₁' number₁ weight₁ chain₁
-    → Cycle route₂ b₂ chain₁ h s₁ s₂ work₂ work₂' number₂ weight₂ chain₂
-    → number₀ ≡ 0 → number₁ ≡ 0 → number₂ ≡ 0 → s₂ ≡ s
-reverse-undone reversed first second zero₀ zero₁ zero₂ =
-    undone (rw zero₁ at first) (rw zero₂ at second) (reversed.reverses zero₀).reverses

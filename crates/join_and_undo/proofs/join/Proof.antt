@@ -1,6 +1,6 @@
 -- `join_and_undo::join` meets its contract: the claim about a compose of two running series, of what the call ensures. Assumes nothing.
 use borrow.Author.Rules.{rules}
-use Rattle.sequence.specs.Cut.{compose-joined}
+use Rattle.sequence.proofs.Cut.{compose-joined}
 use Rattle.join_and_undo.proofs.join.Statement.{statement}
 use Rattle.join_and_undo.proofs.join.Tie as tie
 

@@ -1,6 +1,6 @@
 -- `join_and_undo::undo` meets its contract: the theorem about a reverse and two cycles, of what the three calls ensure. Assumes nothing.
 use borrow.Author.Rules.{rules}
-use Rattle.sequence.specs.Undone.{reverse-undone}
+use Rattle.sequence.proofs.Undone.{reverse-undone}
 use Rattle.join_and_undo.proofs.undo.Statement.{statement}
 use Rattle.join_and_undo.proofs.undo.Tie as tie
 
