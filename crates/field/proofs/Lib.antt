@@ -1,4 +1,4 @@
--- What rests on the table of steps. It stands here, and not in specs/, so that the table's own check refuses an edit of it.
+-- Theorems over the definitions. They stand here, and not in specs/, so that an edit of a definition that they refuse is refused by a proof.
 --
---   Wheel   on from one number of the wheel to the next
+--   Wheel   trial division by the numbers prime to 30
 pub mod Wheel

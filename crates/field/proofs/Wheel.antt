@@ -1,13 +1,49 @@
--- Trial division by the numbers prime to 30: on from one number to the next, by `step`.
+-- Trial division by the numbers prime to 30, over the definitions of specs/Wheel. They stand here, and not in specs/, so that a wheel that
+-- leaves divisors out is refused by a proof.
 --
+--   wheel_seven    before 7 is tried
 --   wheel_room     a step is above 0, and a step from d is at most p while the square of d is
 --   wheel_next     d does not divide p: on to the next one
 -- Assumes nothing.
-use Rattle.std.specs.Prelude.{ℕ, ◌+◌, ◌*◌, ◌%◌, ◌<◌, ◌≤◌, get_or, ◌≢◌, ◌≡◌}
+use Rattle.std.specs.Prelude.{ℕ, zero, suc, ◌+◌, ◌*◌, ◌%◌, ◌<◌, ◌≤◌, get_or, ◌≢◌, ◌≡◌}
 use Rattle.std.proofs.Math.Decide.{dec_lt}
 use Rattle.std.proofs.Common.{arith}
-use Rattle.field.specs.Trial.{Tried, tried-next, tried-room, undivided_by}
-use Rattle.field.specs.Wheel.{Step, Wheel, remainders, step, steps}
+use Rattle.field.specs.Trial.{Tried, tried-next, tried-room, tried-three, undivided_by}
+use Rattle.field.specs.Wheel.{Wheel, remainders, steps}
+
+-- the step s from d leads to the remainder r, and 3 or 5 divides each odd number between
+record Step (d s r : ℕ) : Type 0 where
+  even : s % 2 ≡ 0
+  positive : 0 < s
+  short : s ≤ 6
+  leads : (d + s) % 30 ≡ r
+  second : 2 < s → (d + 2) % 3 ≢ 0 → (d + 2) % 5 ≢ 0 → ⊥
+  third : 4 < s → (d + 2 + 2) % 3 ≢ 0 → (d + 2 + 2) % 5 ≢ 0 → ⊥
+
+-- P of each number below n
+abbrev Each : ℕ → (ℕ → Type 0) → Type 0
+Each zero P = Unit
+Each (suc n) P = P 0 × Each n (λ i. P (suc i))
+
+each_below : (n : ℕ) (P : ℕ → Type 0) → Each n P → (i : ℕ) → i < n → P i
+each_below zero P every i l = absurd (omega arith)
+each_below (suc n) P every zero l = every.0
+each_below (suc n) P every (suc i) l = each_below n (λ i. P (suc i)) every.1 i (omega arith)
+
+step : (d i : ℕ) → i < 8 → d % 30 ≡ get_or remainders i 0 → Step d (get_or steps i 0) (get_or remainders ((i + 1) % 8) 0)
+unfolding steps remainders
+step d =
+    each_below 8 (λ i. d % 30 ≡ get_or remainders i 0 → Step d (get_or steps i 0) (get_or remainders ((i + 1) % 8) 0)) (search arith)
+
+pub wheel_seven : (p : ℕ) → 1 < p → p % 2 ≢ 0 → p % 3 ≢ 0 → p % 5 ≢ 0 → Wheel p 7 0
+unfolding remainders
+wheel_seven p l two three five =
+    record {
+      tried = tried-next (tried-next (tried-three p l two) three) five;
+      past_five = omega arith;
+      within = omega arith;
+      place = omega arith;
+    }
 
 module _ {p d i : ℕ} (w : Wheel p d i) where
   from_here : Step d (get_or steps i 0) (get_or remainders ((i + 1) % 8) 0)

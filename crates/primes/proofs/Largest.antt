@@ -1,18 +1,41 @@
--- The largest prime that is a modulus.
+-- The largest prime that is a modulus, by the test of the table's rule: no odd number below 65537 divides it, and one divides each number
+-- from there to 2^32. It stands here, and not in specs/, so that another number there is refused by a proof.
 --
 --   largest-next      it is a prime below 2^32, and no prime lies between
 --   largest-prime     it is what the search for the largest prime below 2^32 finds
 --   largest_taken     number 2 does not turn it down
 --   beyond_refused    number 2 turns down every number above it
 -- Assumes nothing.
-use Rattle.std.specs.Prelude.{ℕ, ◌^◌, ◌<◌, Bool, true, false, [], ◌∷◌, ◌≡◌, refl}
+use Rattle.std.specs.Prelude.{ℕ, ◌*◌, ◌^◌, ◌<◌, ◌≤◌, Bool, true, false, [], ◌∷◌, ◌≡◌, refl}
 use Rattle.std.proofs.Common.{lit≤, arith}
 use Rattle.definition.specs.Prime.{largest_modulus}
 use Rattle.definition.specs.PrimeTable.{prime_below}
 use Rattle.definition.specs.Refusal.{bad_modulus}
 use Rattle.field.specs.Opening.{good_modulus, prime_taken}
-use Rattle.primes.specs.Sieve.{Next, next-below, sieved-next}
-use Rattle.primes.specs.Largest.{largest_prime, tested, within}
+use Rattle.primes.specs.Sieve.{
+  Next,
+  composites,
+  coprime,
+  free,
+  gaps,
+  next-below,
+  odd_trial,
+  product,
+  quick,
+  reach,
+  rest,
+  sieved,
+  sieved-next,
+  trial,
+}
+use Rattle.primes.specs.Largest.{largest_prime}
+
+tested : sieved (2 ^ 32) (largest_prime ∷ []) ≡ true
+unfolding sieved free rest coprime product gaps composites quick odd_trial trial
+tested = refl
+
+within : 2 ^ 32 ≤ reach * reach
+within = lit≤ tt
 
 pub largest-next : Next (2 ^ 32) largest_prime
 largest-next = sieved-next (2 ^ 32) (largest_prime ∷ []) within tested 0 (omega arith)

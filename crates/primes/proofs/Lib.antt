@@ -1,6 +1,6 @@
--- What rests on the tests of the two tables. It stands here, and not in specs/, so that the test itself refuses an edit of a number.
+-- Theorems over the definitions. They stand here, and not in specs/, so that an edit of a definition that they refuse is refused by a proof.
 --
---   Table     the sixteen primes keep the rule of the table
---   Largest   the largest prime that is a modulus
+--   Table     the rule of the table written out
+--   Largest   the largest prime below 2^32
 pub mod Table
 pub mod Largest

@@ -1,18 +1,42 @@
--- The table of primes written out keeps its rule.
+-- The rule of the table written out, by one test that is computed: no odd number below 65537 divides an entry, and one divides each number
+-- between two neighbours. It stands here, and not in specs/, so that a table that breaks it is refused by a proof.
 --
 --   table-written   the sixteen primes are the table of the definitions
 --   table-rule      the rule of the table
 --   table-only      a list that keeps the rule is this one
 --   member-prime    a number of the table is prime
 -- Assumes nothing.
-use Rattle.std.specs.Prelude.{ℕ, suc, ◌<◌, get_or, true, List, ◌∷◌, ◌≡◌, refl}
-use Rattle.std.proofs.Common.{arith}
+use Rattle.std.specs.Prelude.{ℕ, suc, ◌*◌, ◌<◌, ◌≤◌, get_or, true, List, ◌∷◌, ◌≡◌, refl}
+use Rattle.std.proofs.Common.{lit≤, arith}
 use Rattle.definition.specs.Prime.{Prime}
 use Rattle.definition.specs.PrimeTable.{TableRule, table_bound, prime_table}
 use Rattle.definition.proofs.TableDetermined.{table-rule_determined}
 use Rattle.primes.specs.Member.{member, member-holds}
-use Rattle.primes.specs.Sieve.{Next, sieved-below, sieved-next}
-use Rattle.primes.specs.Table.{table, tested, within}
+use Rattle.primes.specs.Sieve.{
+  Next,
+  composites,
+  coprime,
+  free,
+  gaps,
+  odd_trial,
+  product,
+  quick,
+  reach,
+  rest,
+  sieved,
+  sieved-below,
+  sieved-next,
+  trial,
+}
+use Rattle.primes.specs.Table.{table}
+
+tested : sieved table_bound table ≡ true
+unfolding sieved free rest coprime product gaps composites quick odd_trial trial table table_bound
+tested = refl
+
+within : table_bound ≤ reach * reach
+unfolding table_bound
+within = lit≤ tt
 
 pub table-written : prime_table ≡ table
 unfolding prime_table table

@@ -5,8 +5,8 @@
 --   cut             the theorem, for the cycles accepted
 --   cut_calls       and for the calls: a fresh chain that is handed the last calls that the long one accepted accepts them all
 --   cut_exists      there are such chains, wherever the calls that a chain accepted are cut
+--   compose-joined  the claim `Joined` holds of every compose
 --   cut-composed    an accepted compose of the two halves leaves the running series of the whole in its output
---   compose-joined  the claim `Joined` holds of every such call
 use Rattle.std.specs.Prelude.{ℕ, List, ◌++◌, ◌≡◌, refl, length}
 use mathlib.Core.List.Memᴰ
 use Rattle.std.proofs.lemmas.List.{map-append}
@@ -15,12 +15,12 @@ use Rattle.definition.specs.Answer.{kept}
 use Rattle.definition.specs.Calls.{Compose}
 use Rattle.definition.specs.Chain.{Chain}
 use Rattle.definition.specs.Substitution.{composed}
-use Rattle.sequence.proofs.Handed.{accepted-done, accepted-lists, accepts_again, runs}
-use Rattle.sequence.specs.Handed.{Handed, Run, accepted, lists, made, run}
-use Rattle.sequence.proofs.Sequence.{sequence_running}
-use Rattle.sequence.specs.Sequence.{Sequence}
-use Rattle.sequence.proofs.Joined.{joined}
 use Rattle.sequence.specs.Cut.{Halves, Joined, halves}
+use Rattle.sequence.specs.Handed.{Handed, Run, accepted, lists, made, run}
+use Rattle.sequence.specs.Sequence.{Sequence}
+use Rattle.sequence.proofs.Handed.{accepted-done, accepted-lists, accepts_again, runs}
+use Rattle.sequence.proofs.Joined.{joined}
+use Rattle.sequence.proofs.Sequence.{sequence_running}
 
 pub cut : {p n : ℕ} {chain chain₁ chain₂ : Chain} {s s₁ s₂ : List ℕ} {cs ds : List (List ℕ)} → Sequence p n chain s (cs ++ ds)
     → Sequence p n chain₁ s₁ cs → Sequence p n chain₂ s₂ ds → s ≡ composed p n s₁ s₂

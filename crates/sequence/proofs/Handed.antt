@@ -1,4 +1,5 @@
--- Another chain accepts the calls that one accepted. Assumes nothing.
+-- What holds of the calls of a sequence: another chain of the same p and n accepts what one accepted. It stands here, and not in specs/,
+-- since it rests on the theorems of proofs/Sequence. Assumes nothing.
 --
 --   accepted-lists   the cycles that a sequence accepted are the lists of the calls that it accepted
 --   accepted-done    a chain has done as many cycles as it accepted calls
@@ -6,17 +7,26 @@
 --   runs             where one chain opened, every list of calls can be handed to another one of this p and n
 use Rattle.std.specs.Prelude.{ℕ, zero, suc, ◌<◌, ◌≤◌, ◌≡◌, refl, length, replicate}
 use mathlib.Core.List.Memᴰ
-use mathlib.Core.List.{List, Memᴰ, [], ◌∷◌, ◌++◌, append_assoc, append-nil, map-append}
+use mathlib.Core.List.{
+  List,
+  Memᴰ,
+  [],
+  ◌∷◌,
+  ◌++◌,
+  append_assoc,
+  append-nil,
+  map-append,
+}
 use Rattle.std.proofs.Common.{sym, ap, ◌∙◌, length-append, arith}
 use Rattle.std.proofs.lemmas.List.{length-map, length-replicate}
 use Rattle.algebra.specs.Prime.{prime-positive}
 use Rattle.definition.specs.Chain.{Chain}
 use Rattle.definition.specs.Refusal.{cycle_refusal, most_cycles}
 use Rattle.refusal.specs.Bounds.{cycle_again}
-use Rattle.sequence.specs.Running.{running-below, running-constant}
-use Rattle.sequence.proofs.Sequence.{accepted_all, sequence_constant-free, sequence_running}
-use Rattle.sequence.specs.Sequence.{Sequence, accepted_after, called, opened, sequence_field}
 use Rattle.sequence.specs.Handed.{Handed, Run, accepted, handed, lists, made, run}
+use Rattle.sequence.specs.Running.{running-below, running-constant}
+use Rattle.sequence.specs.Sequence.{Sequence, accepted_after, called, opened}
+use Rattle.sequence.proofs.Sequence.{accepted_all, sequence_constant-free, sequence_field, sequence_running}
 
 lists-after : (number : ℕ) (h : Handed) (hs : List Handed) → lists (accepted_after number h hs) ≡ accepted_after number h.list (lists hs)
 unfolding accepted_after

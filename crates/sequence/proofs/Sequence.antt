@@ -1,10 +1,10 @@
--- After every sequence of calls of a chain the running series is the composition of all cycles accepted. Assumes nothing.
+-- What holds of every sequence of calls of a chain (demand 2). It stands here, and not in specs/, so that another order of the cycles, or
+-- another list of those accepted, is refused by a proof. Assumes nothing.
 --
 --   sequence_running                 after every sequence the record and the running series are those of the cycles accepted
+--   sequence_field                   p is a modulus and n an order that a call takes
 --   accepted_all                     what holds of all that were accepted before, and of the new one if it is, holds of all
 --   sequence_constant-free           no cycle that was accepted has a constant term
---   sequence_accepted                one accepted call more: the running series is that of the cycles before it, and then of its own
---   sequence_refused                 one refused call more: it is that of the cycles before it
 use Rattle.std.specs.Prelude.{ℕ, zero, suc, ◌<◌, ◌⊎◌, ◌≡◌, refl, length}
 use mathlib.Core.List.Memᴰ
 use mathlib.Core.List.{
@@ -16,15 +16,18 @@ use mathlib.Core.List.{
 }
 use Rattle.std.proofs.Common.{inl, inr, sym, ap, ◌∙◌, length-append, arith}
 use Rattle.algebra.specs.Prime.{prime-positive}
-use Rattle.sequence.specs.Running.{ConstantFree, length-running, running-[], running-next}
 use Rattle.definition.specs.Answer.{kept}
 use Rattle.definition.specs.Calls.{Cycle, Open}
 use Rattle.definition.specs.Chain.{Chain, next_chain, opened_chain}
 use Rattle.definition.specs.Lists.{coefficient}
-use Rattle.definition.specs.Running.{running}
 use Rattle.definition.specs.Substitution.{composed}
-use Rattle.refusal.specs.Bounds.{cycle-bounds, open_bounds}
+use Rattle.refusal.specs.Bounds.{FieldBounds, cycle-bounds, open_bounds}
+use Rattle.sequence.specs.Running.{ConstantFree, length-running, running-[], running-next}
 use Rattle.sequence.specs.Sequence.{ChainOf, Sequence, accepted_after, called, opened}
+
+pub sequence_field : {p n : ℕ} {chain : Chain} {s : List ℕ} {cs : List (List ℕ)} → Sequence p n chain s cs → FieldBounds p n
+sequence_field {p} {n} (opened {s} o e) = (open_bounds p n (length s) (sym o.refusal ∙ e)).field
+sequence_field (called before q) = sequence_field before
 
 opened-chain : {p n weight : ℕ} {s s' : List ℕ} {chain : Chain} → Open p n s s' 0 weight chain → ChainOf p n chain s' []
 unfolding opened_chain kept
@@ -74,15 +77,3 @@ sequence_constant-free (opened o e) = λ c m. absurd (Memᴰ.not-nil m)
 sequence_constant-free (called {chain} {s} {cs} before {route} {b} {number} {c = c} {work = work} q) =
     accepted_all (λ d. coefficient d 0 ≡ 0) number c cs (sequence_constant-free before)
     (λ e. (cycle-bounds route b chain c s (length work) (sym q.refusal ∙ e)).constant-free)
-
-pub sequence_accepted : {p n : ℕ} {chain : Chain} {s : List ℕ} {cs : List (List ℕ)} → Sequence p n chain s cs
-    → {route b weight : ℕ} {chain' : Chain} {c s' work work' : List ℕ} → Cycle route b chain c s s' work work' 0 weight chain'
-    → s' ≡ running p n (cs ++ (c ∷ []))
-unfolding accepted_after
-sequence_accepted before q = (sequence_running (called before q)).series
-
-pub sequence_refused : {p n : ℕ} {chain : Chain} {s : List ℕ} {cs : List (List ℕ)} → Sequence p n chain s cs
-    → {route b number weight : ℕ} {chain' : Chain} {c s' work work' : List ℕ} → Cycle route b chain c s s' work work' (suc number) weight chain'
-    → s' ≡ running p n cs
-unfolding accepted_after
-sequence_refused before q = (sequence_running (called before q)).series

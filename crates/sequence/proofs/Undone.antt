@@ -1,6 +1,6 @@
--- A cycle undone (N6) in sequences, and by a reverse. Assumes nothing.
+-- A cycle undone (N6) in a sequence, and with what an accepted reverse wrote. Assumes nothing.
 --
---   sequence_undone    the last two cycles accepted of a sequence leave the running series before them, whatever calls were refused between and after
+--   sequence_undone    the last two cycles accepted of a sequence leave the running series as it was, whatever calls were refused between and after
 --   sequence_reversed  so it is in a sequence with what an accepted reverse wrote
 --   reverse-undone     and with two cycles of any chain
 use Rattle.std.specs.Prelude.{ℕ, List, [], ◌∷◌, ◌++◌, ◌≡◌, refl}
@@ -12,9 +12,9 @@ use Rattle.definition.specs.Chain.{Chain}
 use Rattle.definition.specs.Reversion.{identity}
 use Rattle.definition.specs.Substitution.{composed}
 use Rattle.sequence.specs.Running.{running-undone}
-use Rattle.sequence.proofs.Sequence.{sequence_constant-free, sequence_running}
-use Rattle.sequence.specs.Sequence.{Sequence, sequence_field}
+use Rattle.sequence.specs.Sequence.{Sequence}
 use Rattle.sequence.specs.Undone.{undone}
+use Rattle.sequence.proofs.Sequence.{sequence_constant-free, sequence_field, sequence_running}
 
 pub sequence_undone : {p n : ℕ} {chain chain' : Chain} {s s' : List ℕ} {cs : List (List ℕ)} (c h : List ℕ) → Sequence p n chain s cs
     → Sequence p n chain' s' (cs ++ (c ∷ h ∷ [])) → composed p n c h ≡ identity n → s' ≡ s

@@ -1,5 +1,5 @@
--- What the theorems of a chain cut in two (N6) say: see proofs/Cut.
--- Assumes nothing.
+-- A chain cut in two (N6): what its halves are, and the claim about a compose of two running series. The theorems over them stand in
+-- proofs/Cut.
 --
 --   Halves          two chains of this p and n that were handed these calls and accepted them all, s the composition of their running series
 --   Joined ..       the claim about a compose of two running series, for all cycles that led to them

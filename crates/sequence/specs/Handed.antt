@@ -1,12 +1,25 @@
--- The calls of a sequence: what each is handed beside the record and the running series of the chain. Assumes nothing.
+-- The calls of a sequence: what each is handed beside the record and the running series of the chain. The theorems over them stand in
+-- proofs/Handed.
 --
---   Handed handed    what a call of a cycle is handed
+--   Handed           what a call of a cycle is handed
 --   made accepted    the calls of a sequence, and those of them that returned 0, first call first
+--   lists            the lists of calls
 --   Run p n hs       an opened chain that was handed the calls hs
 use Rattle.std.specs.Prelude.{ℕ, ◌≡◌, length}
-use mathlib.Core.List.{List, [], ◌∷◌, ◌++◌, map}
+use mathlib.Core.List.{
+  List,
+  [],
+  ◌∷◌,
+  ◌++◌,
+  map,
+}
 use Rattle.definition.specs.Chain.{Chain}
-use Rattle.sequence.specs.Sequence.{Sequence, accepted_after, called, opened}
+use Rattle.sequence.specs.Sequence.{
+  Sequence,
+  accepted_after,
+  called,
+  opened,
+}
 
 pub record Handed : Type 0 where
   pub route : ℕ

@@ -1,10 +1,10 @@
 -- Sequences of calls of a chain.
 --
 --   Running    laws of the running series: its places, a chain cut in two, a cycle undone
---   Sequence   sequences of calls, and what holds after one
+--   Sequence   sequences of calls, and the record and the running series of the cycles accepted
 --   Handed     the calls of a sequence
---   Cut        what is said of a chain cut in two
---   Undone     two cycles one after the other, the second with the reverse series
+--   Cut        the two parts of a chain that is cut
+--   Undone     a cycle with the reverse series restores the running series
 pub mod Running
 pub mod Sequence
 pub mod Handed

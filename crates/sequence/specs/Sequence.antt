@@ -1,18 +1,21 @@
 -- Sequences of calls of a chain (demand 2): from an opened chain, each call given the record and the running series that the one before
--- left. p is the modulus and n the order that the chain was opened with; a name with a prime (') is a value after a call. Assumes nothing.
+-- left. p is the modulus and n the order that the chain was opened with; a name with a prime (') is a value after a call. The theorems over
+-- them stand in proofs/Sequence.
 --
 --   accepted_after number c cs        the cycles accepted, cs before, after one with c that returned this number; calls likewise
 --   Sequence p n chain s cs          calls that left this record and the running series s, and accepted the cycles cs
 --   ChainOf p n chain s cs           this record and this running series are those of the cycles cs
---   sequence_field                   p is a modulus and n an order that a call takes
 use Rattle.std.specs.Prelude.{ℕ, zero, suc, ◌≤◌, ◌≡◌, length}
-use mathlib.Core.List.{List, [], ◌∷◌, ◌++◌}
-use Rattle.std.proofs.Common.{sym, ◌∙◌}
+use mathlib.Core.List.{
+  List,
+  [],
+  ◌∷◌,
+  ◌++◌,
+}
 use Rattle.definition.specs.Calls.{Cycle, Open}
 use Rattle.definition.specs.Chain.{Chain}
 use Rattle.definition.specs.Refusal.{most_cycles}
 use Rattle.definition.specs.Running.{running}
-use Rattle.refusal.specs.Bounds.{FieldBounds, open_bounds}
 
 unfoldable pub accepted_after : {A : Type 0} → ℕ → A → List A → List A
 accepted_after zero c cs = cs ++ (c ∷ [])
@@ -32,7 +35,3 @@ pub record ChainOf (p n : ℕ) (chain : Chain) (s : List ℕ) (cs : List (List �
   pub series : s ≡ running p n cs
   pub places : length s ≡ n
   pub most : chain.done ≤ most_cycles
-
-pub sequence_field : {p n : ℕ} {chain : Chain} {s : List ℕ} {cs : List (List ℕ)} → Sequence p n chain s cs → FieldBounds p n
-sequence_field {p} {n} (opened {s} o e) = (open_bounds p n (length s) (sym o.refusal ∙ e)).field
-sequence_field (called before q) = sequence_field before

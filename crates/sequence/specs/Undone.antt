@@ -1,5 +1,5 @@
 -- A cycle undone (N6): a cycle c, and then one with its reverse series h, any list without constant term for which c(h) is x modulo x^n.
--- Assumes nothing.
+-- What rests on it stands in proofs/Undone. Assumes nothing.
 --
 --   undone             two accepted cycles, one after the other, leave the running series that the first was given
 use Rattle.std.specs.Prelude.{ℕ, List, ◌≡◌, length}

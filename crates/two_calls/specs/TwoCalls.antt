@@ -1,24 +1,18 @@
 -- When two answers are equal (demand 3): one claim about any two calls, each of compose or of a cycle. Both routes and block lengths, what the output and
 -- the work held before, and what else a call was given are left open. A cycle's outer list is the running series, its inner list is its own
--- (N3), and its output is the running buffer. A name with a prime (') is a value after the call. Assumes nothing.
+-- (N3), and its output is the running buffer. A name with a prime (') is a value after the call. That it holds of any two calls stands in
+-- proofs/TwoCalls.
 --
 --   Call number p n f g out'   a call that returned this number, with outer list f, inner list g, and out' in its output afterwards
 --   Answers p n f₁ g₁ out₁ f₂ g₂ out₂   each output is f(g) modulo x^n for its own lists; the two are equal exactly when the first ⌈n/v⌉
 --                              coefficients of f₁ and of f₂ in powers of (z - c) are
 --   Equality ..                the claim: this holds where both calls returned 0, with one p, one n and inner lists that agree below n
---   two_calls                  it holds of any two calls
-use Rattle.std.specs.Prelude.{ℕ, ◌<◌, false, List, ◌↔◌, ◌≡◌, length}
-use Rattle.std.proofs.Common.{sym, ◌∙◌}
-use Rattle.definition.specs.Answer.{kept}
+use Rattle.std.specs.Prelude.{ℕ, ◌<◌, List, ◌↔◌, ◌≡◌}
 use Rattle.definition.specs.Calls.{Compose, Cycle}
 use Rattle.definition.specs.Chain.{Chain}
 use Rattle.definition.specs.Lists.{coefficient}
-use Rattle.definition.specs.Prime.{Prime}
-use Rattle.definition.specs.Refusal.{exceeds}
 use Rattle.definition.specs.Substitution.{composed}
 use Rattle.definition.specs.Taylor.{leading}
-use Rattle.two_calls.specs.Leading.{leading_decides}
-use Rattle.refusal.specs.Bounds.{compose-bounds, cycle-bounds}
 
 pub data Call : ℕ → ℕ → ℕ → List ℕ → List ℕ → List ℕ → Type 0 where
   compose : {route b p n number weight : ℕ} {f g out out' work work' : List ℕ}
@@ -39,32 +33,3 @@ Equality number₁ p₁ n₁ f₁ g₁ out₁ number₂ p₂ n₂ f₂ g₂ out�
     → n₁ ≡ n₂
     → ((k : ℕ) → k < n₁ → coefficient g₁ k ≡ coefficient g₂ k)
     → Answers p₁ n₁ f₁ g₁ out₁ f₂ g₂ out₂
-
--- what number 0 tells of a call
-record Accepted (p n : ℕ) (f g out' : List ℕ) : Type 0 where
-  prime : Prime p
-  positive : 0 < n
-  answer : out' ≡ composed p n f g
-  small : exceeds p g ≡ false
-
-pub two_calls : {number₁ p₁ n₁ number₂ p₂ n₂ : ℕ} {f₁ g₁ out₁ f₂ g₂ out₂ : List ℕ} → Call number₁ p₁ n₁ f₁ g₁ out₁
-    → Call number₂ p₂ n₂ f₂ g₂ out₂ → Equality number₁ p₁ n₁ f₁ g₁ out₁ number₂ p₂ n₂ f₂ g₂ out₂
-unfolding Equality kept
-two_calls c d zero₁ zero₂ same-p same-n agree =
-    equal_answers (accepted c zero₁) (rw (← same-p, ← same-n) at (accepted d zero₂)) agree
-  where
-    accepted : {number p n : ℕ} {f g out' : List ℕ} → Call number p n f g out' → number ≡ 0 → Accepted p n f g out'
-    accepted (compose {route} {b} {p} {n} {f = f} {g = g} {out = out} {work = work} q) e =
-        let bounds = compose-bounds route b p n f g (length out) (length work) (sym q.refusal ∙ e) in
-        record { prime = bounds.field.prime; positive = bounds.field.positive; answer = rw e at q.output; small = bounds.below-inner }
-    accepted (cycle {route} {b} {chain = chain} {c = c} {s = s} {work = work} q) e =
-        let bounds = cycle-bounds route b chain c s (length work) (sym q.refusal ∙ e) in
-        record { prime = bounds.field.prime; positive = bounds.field.positive; answer = rw e at q.running; small = bounds.below-inner }
-
-    equal_answers : {p n : ℕ} {f₁ g₁ out₁ f₂ g₂ out₂ : List ℕ} → Accepted p n f₁ g₁ out₁ → Accepted p n f₂ g₂ out₂
-        → ((k : ℕ) → k < n → coefficient g₁ k ≡ coefficient g₂ k) → Answers p n f₁ g₁ out₁ f₂ g₂ out₂
-    equal_answers {f₁ = f₁} {g₁ = g₁} {f₂ = f₂} {g₂ = g₂} a b agree = record {
-      first = a.answer;
-      second = b.answer;
-      equal = rw (a.answer, b.answer) (leading_decides a.prime a.positive f₁ g₁ f₂ g₂ a.small agree);
-    }

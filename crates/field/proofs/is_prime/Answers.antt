@@ -5,8 +5,8 @@ use mathlib.Core.Path.{refl, sym}
 use Rattle.algebra.specs.Prime.{is_prime_false}
 use Rattle.definition.specs.Prime.{indivisible, is_prime}
 use Rattle.field.specs.Trial.{divided_prime, tried_divided, tried-prime}
-use Rattle.field.proofs.Wheel.{wheel_next, wheel_room}
-use Rattle.field.specs.Wheel.{steps, wheel_seven}
+use Rattle.field.specs.Wheel.{steps}
+use Rattle.field.proofs.Wheel.{wheel_next, wheel_room, wheel_seven}
 use Rattle.field.proofs.is_prime.Goals as goal
 
 pub returns-then-p-lt2 : goal.returns-then-p-lt2

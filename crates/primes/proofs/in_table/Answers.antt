@@ -2,8 +2,8 @@
 use mathlib.Core.Path.{◌≡◌, sym, ◌∙◌}
 use native.Mathlib.Omega.{arith}
 use Rattle.primes.specs.Member.{member, member_here, member_past}
-use Rattle.primes.proofs.Table.{table-written}
 use Rattle.primes.specs.Table.{table}
+use Rattle.primes.proofs.Table.{table-written}
 use Rattle.primes.proofs.in_table.Goals as goal
 
 pub loop-i-init : goal.loop-i-init

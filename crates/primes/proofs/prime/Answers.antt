@@ -3,8 +3,8 @@ use borrow.Author.Tests.{le-leb, lt-leb}
 use mathlib.Core.Path.{refl}
 use Rattle.definition.specs.Answer.{answered}
 use Rattle.definition.specs.Refusal.{first, table_refusal, test}
-use Rattle.primes.proofs.Table.{table-written}
 use Rattle.primes.specs.Table.{table}
+use Rattle.primes.proofs.Table.{table-written}
 use Rattle.primes.proofs.prime.Goals as goal
 
 pub returns-then-index-lt16 : goal.returns-then-index-lt16
