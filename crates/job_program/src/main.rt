@@ -1,54 +1,35 @@
 // The job program: reads a job file from standard input and writes the answer to standard output.
-ghost use Rattle.io.specs.Counts.{IsPrefixLen};
+#![tactic(auto)]
+ghost use Rattle.std.specs.Prelude.{◌≤◌, length, IfOk};
 
-use libc::{STDIN_FILENO, STDOUT_FILENO};
+use std::io;
+use std::io::{Read, Write};
 
-// What is read: the count of bytes, and whether a read failed.
-#[derive(Drop)]
-struct Input {
-    count: usize,
-    failed: bool,
-}
-
-// Reads until the input ends, `file` is full or a read fails.
-fn read_input(file: &mut [u8]) -> Input
-    ensures { IsPrefixLen result.count file.new }
+// Reads until the input ends or `file` is full: the count of bytes.
+fn read_input(input: &mut impl Read, file: &mut [u8]) -> io::Result<usize>
+    ensures { IfOk result (λ count. count ≤ length file.new) }
 {
     let mut count = 0;
     while count < file.len() {
-        let got = libc::read(STDIN_FILENO, &mut file[count..]);
-        let more = io::count(got, &file[count..]);
+        let more = input.read(&mut file[count..])?;
         if more == 0 {
-            return Input {
-                count: count,
-                failed: got < 0,
-            };
+            return Ok(count);
         }
         count += more;
     }
-    Input {
-        count: count,
-        failed: false,
-    }
+    Ok(count)
 }
 
 // Writes the answer to a file.
-fn write_answer(file: &[u8]) {
+fn write_answer(output: &mut impl Write, file: &[u8]) -> io::Result<()> {
     let mut text = [0u8; job::LONGEST];
     let count = job::answer(file, &mut text);
-    if !io::write_all(STDOUT_FILENO, &text[..count]) {
-        os::fail(b"standard output");
-    }
+    output.write_all(&text[..count])
 }
 
 // The buffer has a byte more than the longest file, so that a longer one shows.
-fn main() {
+fn main(rt: HostRuntime) -> io::Result<()> {
     let mut file = [0u8; job_file::MOST_BYTES + 1];
-    let input = read_input(&mut file);
-    if input.failed {
-        os::fail(b"standard input");
-        return;
-    }
-    let count = input.count;
-    write_answer(&file[..count]);
+    let count = read_input(&mut rt.stdin(), &mut file)?;
+    write_answer(&mut rt.stdout(), &file[..count])
 }
