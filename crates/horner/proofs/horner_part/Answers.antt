@@ -6,7 +6,8 @@ use lib.ListN.{length}
 use lib.Seq.{sets}
 use Rattle.definition.specs.Lists.{coefficient, tabulate}
 use Rattle.definition.specs.Substitution.{constant}
-use Rattle.horner.specs.Part.{PartOperands, Running, operands_next, operands-put, running-first, running_last, running-next, running-small, top_put}
+use Rattle.horner.proofs.Part.{running-next}
+use Rattle.horner.specs.Part.{PartOperands, Running, operands_next, operands-put, running-first, running_last, running-small, top_put}
 use Rattle.buffer.specs.Turns.{running-inside, running_place}
 use Rattle.horner.proofs.horner_part.Goals as goal
 use Rattle.horner.proofs.horner_part.Goals.{After-put_constant, After-running_place-from, In-loop-i}
