@@ -1,5 +1,6 @@
 // The job program: reads a job file from standard input and writes the answer to standard output.
 #![tactic(auto)]
+
 ghost use Rattle.std.specs.Prelude.{◌≤◌, length, IfOk};
 
 use std::io;
