@@ -2,6 +2,7 @@
 // modulo p, cut to n places, where A and B are the n places from a and from b on. The factors are read before the target is written, so
 // that the parts may lie in any way. There is a function for each range of lengths, and the caller chooses.
 #![tactic(auto)]
+
 ghost use Rattle.std.specs.Prelude.{◌≡◌, ◌+◌, ◌<◌, ◌≤◌, length};
 ghost use Rattle.std.proofs.lemmas.List.Edits.{sets};
 ghost use Rattle.buffer.specs.Segments.{segment};

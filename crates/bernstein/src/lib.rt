@@ -3,6 +3,7 @@
 // A level works on the places of its slice: g at 0, f at n, the value at n + m, the next part's value at 2n + m. The rest, from 3n + m on, is lent to
 // the next level, which finds h and a part of f there.
 #![tactic(auto)]
+
 ghost use Rattle.std.specs.Prelude.{◌≡◌, ◌+◌, ◌<◌, ◌≤◌, length};
 ghost use Rattle.std.proofs.lemmas.List.Edits.{sets};
 ghost use Rattle.definition.specs.Bernstein.{pth_powers};

@@ -10,7 +10,7 @@
 -- Assumes nothing.
 use Rattle.std.specs.Prelude.{ℕ, ◌+◌, ◌-◌, ◌*◌, ◌/◌, ◌%◌, ◌<◌, ◌≤◌, Bool, true, false, cond, List, ◌≡◌, refl, eqb, length}
 use Rattle.std.proofs.Math.Decide.{dec_lt}
-use Rattle.std.proofs.Common.{add-mul, add-zero, div-add-mod', le_of_eq, mod-lt, mul-one, zero-add, arith, sym, ap, ◌∙◌, eqb-true}
+use Rattle.std.proofs.Common.{add-mul, add-zero, div-add-mod', le_of_eq, mod-lt, mul-one, arith, sym, ap, ◌∙◌, eqb-true}
 use Rattle.std.proofs.Math.Nat.{mod_self, sub-zero, zero-mod}
 use Rattle.std.proofs.Math.Path.{fun_ext}
 use Rattle.algebra.specs.Lists.{tabulate-coefficient, tabulate_cong}

@@ -9,7 +9,7 @@
 --   negative-reduced    -c modulo p, of a c that is reduced first
 --   place_inside held-inside   a coefficient of the polynomial in some rows is a place of the list
 -- Assumes nothing.
-use Rattle.std.specs.Prelude.{ℕ, zero, suc, ◌+◌, ◌*◌, ◌%◌, ◌<◌, ◌≤◌, ◌≡◌, refl, List, get_or}
+use Rattle.std.specs.Prelude.{ℕ, zero, suc, ◌+◌, ◌*◌, ◌%◌, ◌<◌, ◌≤◌, ◌≡◌, List, get_or}
 use Rattle.std.proofs.Common.{add_assoc, le_refl, mul-le-mul_right, mul-zero, suc-mul, zero-add, add-one, arith, ◌∙◌}
 use Rattle.std.proofs.Math.Nat.{mod-mod}
 use Rattle.std.proofs.Math.Path.{sym, ap}

@@ -1,6 +1,7 @@
 // The steps of route 4 on polynomials in x and y, in rows of one lent buffer, row j for y^j: Q(-x, y), the even part, x^2 for x, and a window of the
 // powers of y. Each is written row by row, so no place is divided by the length of a row. Products stand in `product`, Q = 1 - y g in `denominator`.
 #![tactic(auto)]
+
 ghost use Rattle.std.specs.Prelude.{◌≡◌, ◌+◌, ◌-◌, ◌*◌, ◌<◌, ◌≤◌, length};
 ghost use Rattle.std.proofs.lemmas.List.Edits.{sets};
 ghost use Rattle.definition.specs.KinoshitaLi.{even_part, negative, opposite, plane, squared, window};

@@ -1,6 +1,7 @@
 // Products of polynomials in two variables modulo p, on lists of blocks (`blocks`): the sums of at most 128 places of a result, and one remainder a
 // place.
 #![tactic(auto)]
+
 ghost use Rattle.std.specs.Prelude.{◌≡◌, length};
 ghost use Rattle.std.proofs.lemmas.List.Edits.{sets};
 ghost use Rattle.definition.specs.Lists.{tabulate};

@@ -2,6 +2,7 @@
 // loops run along it. A list of blocks begins with eight zeros, and eight zeros stand behind each block. A result is summed up over all pairs of
 // blocks.
 #![tactic(auto)]
+
 ghost use Rattle.std.specs.Prelude.{◌≡◌, ◌+◌, ◌-◌, ◌*◌, ◌%◌, ◌<◌, ◌≤◌, ◌^◌, length};
 ghost use Rattle.summed_product.specs.Sums.{Sums};
 ghost use Rattle.summed_product.specs.Terms.{Added};

@@ -1,5 +1,6 @@
 // Buffers of 32-bit numbers: clearing, copying, the test that every number is below a bound, the effective length, and the place of a running value.
 #![tactic(auto)]
+
 ghost use Rattle.std.specs.Prelude.{◌≡◌, ◌++◌, ◌+◌, ◌*◌, ◌^◌, ◌<◌, ◌≤◌, length, take, drop, replicate};
 ghost use Rattle.std.proofs.lemmas.List.Edits.{sets};
 ghost use Rattle.definition.specs.Answer.{cleared};

@@ -1,6 +1,7 @@
 // Chains of cycles: a record of modulus, order and cycles done, by value, and the calls that open it and carry out a cycle. The running
 // series stands in a buffer that the caller lends.
 #![tactic(auto)]
+
 ghost use Rattle.std.specs.Prelude.{◌≡◌, length};
 ghost use Rattle.chain.specs.Record.{recorded};
 ghost use Rattle.definition.specs.Calls.{Cycle, Open};

@@ -1,5 +1,6 @@
 // The call compose: f(g) modulo x^n by the route named, or a refusal.
 #![tactic(auto)]
+
 ghost use Rattle.std.specs.Prelude.{◌≡◌, length, ◌<◌, ◌≤◌};
 ghost use Rattle.definition.specs.Calls.{Compose};
 ghost use Rattle.definition.specs.Prime.{Prime};

@@ -1,5 +1,6 @@
 // The denominator Q = 1 - y g of route 4, in rows of one lent buffer, row j for y^j.
 #![tactic(auto)]
+
 ghost use Rattle.std.specs.Prelude.{◌≡◌, ◌+◌, ◌*◌, ◌<◌, ◌≤◌, length};
 ghost use Rattle.std.proofs.lemmas.List.Edits.{sets};
 ghost use Rattle.definition.specs.KinoshitaLi.{denominator, plane};

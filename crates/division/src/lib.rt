@@ -1,5 +1,6 @@
 // Division of series in one variable, on places of one lent buffer, and f's list reversed, P of route 4: at order 1 P is divided by Q(0, y).
 #![tactic(auto)]
+
 ghost use Rattle.std.specs.Prelude.{◌≡◌, ◌+◌, ◌*◌, ◌≤◌, ◌<◌, ◌^◌, length};
 ghost use Rattle.std.proofs.lemmas.List.Edits.{sets};
 ghost use Rattle.definition.specs.KinoshitaLi.{numerator};

@@ -1,4 +1,4 @@
--- What a product of parts requires, of its three products too, and that these, woven, are the product.
+-- What a product of parts requires, of its three products too.
 --
 --   product_of              the rows that it writes, a polynomial
 --   Squared                where it is a square the factors are the same
@@ -13,27 +13,19 @@
 --   shorter                equal parts have rows of equal length
 --   half-inner half_start  places of the halves do not wrap
 --   fold-first fold-second what `fold` requires
+--   upper-results lower-results   the places of half of the results
 --   even-multiplying odd-multiplying folded-multiplying   what the three products require
---   thirds                 they give what `weave` requires
---   woven-product          and the three, woven, are the product
 -- Assumes nothing.
 use Rattle.std.specs.Prelude.{ℕ, ◌+◌, ◌*◌, ◌/◌, ◌<◌, ◌≤◌, ◌^◌, Bool, false, true, List, ◌≡◌, length}
 use Rattle.std.proofs.Common.{mul-add, mul_comm, mul-le-mul_left, mul-le-mul_right, mul_left_comm, arith, ap, ◌∙◌}
-use Rattle.std.proofs.Math.Nat.{mod-lt}
-use Rattle.std.proofs.Math.Path.{sym}
 use Rattle.std.proofs.lemmas.List.Edits.{sets}
 use Rattle.std.proofs.Math.Seq.{length-sets}
-use Rattle.definition.specs.KinoshitaLi.{cut_product2_at, even_part, plane, window}
+use Rattle.definition.specs.KinoshitaLi.{cut_product2_at, plane, window}
 use Rattle.grids.specs.Grid.{Clean}
 use Rattle.grids.specs.Parts.{Few, Lies, Room, Source, SquarePut, block_places, grid_at, packed, window-0}
 use Rattle.grids.specs.declared.Grid.{Grid}
-use Rattle.double_rows.specs.Places.{packed_at}
-use Rattle.planes.specs.Parity.{odd_part}
 use Rattle.summed_product.specs.Zeros.{Zeros}
-use Rattle.double_parity.specs.Halves.{even-half, even_half, folded, folded-half, folded_part, lies-even, lies-folded, lies-odd, lower_half, odd-half, odd_half, upper, upper_half}
-use Rattle.double_parity.specs.Packed.{packed_agree, packed-at, packed-below}
-use Rattle.double_karatsuba.specs.Rule.{karatsuba}
-use Rattle.double_parity.specs.Weave.{Third, Thirds, woven_agree, woven_plane}
+use Rattle.double_parity.specs.Halves.{even_half, folded, folded_part, lies-even, lies-folded, lies-odd, lower_half, odd_half, upper, upper_half}
 use Rattle.double_parity.specs.declared.Results.{Results}
 
 abbrev pub product_of : ℕ → Grid → List ℕ → Grid → List ℕ → ℕ → ℕ → ℕ → ℕ
@@ -162,10 +154,10 @@ module _ {p : ℕ} {square : Bool} {g : Grid} {w : List ℕ} {h : Grid} {v : Lis
   second-half : h.count * upper h.length ≤ 4896
   second-half = omega (arith, second-places, half-places h.count h.length long_second)
 
-  upper-results : t.rows * upper t.places ≤ 4352
+  pub upper-results : t.rows * upper t.places ≤ 4352
   upper-results = omega (arith, m.results, half-places t.rows t.places long.places)
 
-  lower-results : t.rows * (t.places / 2) ≤ 4352
+  pub lower-results : t.rows * (t.places / 2) ≤ 4352
   lower-results = omega (arith, upper-results, mul-le-mul_left {m = t.places / 2} {n = upper t.places} t.rows (omega arith))
 
   results-room : (n : ℕ) → n ≤ t.places → {l : List ℕ} → t.rows * n ≤ length l → Room t.turned n t.rows t.low l
@@ -242,68 +234,3 @@ module _ {p : ℕ} {square : Bool} {g : Grid} {w : List ℕ} {h : Grid} {v : Lis
         results = omega (arith, lower-results);
         room = results-room (t.places / 2) (omega arith) (rw l-size lower-results);
       }
-
-      -- the three products have been written to lists of zeros
-      module _ {n : List ℕ} (zeros : Zeros 4352 n) {even odd sums : List ℕ}
-          (evens : Multiplied p (even_half g) w (even_half h) v (upper_half t) n even) (odds : Multiplied p (odd_half g) w (odd_half h) v (lower_half t) n odd)
-          (folds : Multiplied p (folded_part g) s₁ (folded_part h) s₂ (lower_half t) n sums) where
-        abbrev A : ℕ → ℕ → ℕ
-        A = grid_at g w
-
-        abbrev B : ℕ → ℕ → ℕ
-        B = grid_at h v
-
-        upper-room : t.rows * upper t.places ≤ length n
-        upper-room = rw zeros.size upper-results
-
-        lower-room : t.rows * (t.places / 2) ≤ length n
-        lower-room = rw zeros.size lower-results
-
-        residue : (a b : ℕ → ℕ → ℕ) (j i : ℕ) → window t.low (cut_product2_at p a b) j i < p
-        unfolding cut_product2_at window
-        residue a b j i = mod-lt _ m.modulus
-
-        third : (k : ℕ) (a b : ℕ → ℕ → ℕ) {l : List ℕ} → t.rows * k ≤ length n
-            → l ≡ sets n 0 (packed t.turned k t.rows (window t.low (cut_product2_at p a b))) → Third p k t.rows l
-        third k a b room e = record {
-          room = rw (e, length-sets) room;
-          below = λ i. rw e (packed-below k t.rows _ n room p (residue a b) (λ j. rw (zeros.blank j) m.modulus) t.turned i);
-        }
-
-        pub thirds : Thirds p t even odd sums
-        thirds = record {
-          modulus = m.modulus;
-          few = omega (arith, m.results);
-          evens = third _ _ _ upper-room evens;
-          odds = third _ _ _ lower-room odds;
-          folds = third _ _ _ lower-room folds;
-        }
-
-        -- places of the three
-        module _ (j : ℕ) (b : j < t.rows) (k : ℕ) where
-          even-at : k < upper t.places → packed_at t.turned (upper t.places) t.rows even j k ≡ cut_product2_at p (even_part A) (even_part B) (t.low + j) k
-          unfolding window
-          even-at c =
-              rw evens (packed-at (upper t.places) t.rows (product_of p (even_half g) w (even_half h) v t.low) n upper-room t.turned j k b c
-              ∙ rw (even-half g w, even-half h v))
-
-          odd-at : k < t.places / 2 → packed_at t.turned (t.places / 2) t.rows odd j k ≡ cut_product2_at p (odd_part A) (odd_part B) (t.low + j) k
-          unfolding window
-          odd-at c =
-              rw odds (packed-at (t.places / 2) t.rows (product_of p (odd_half g) w (odd_half h) v t.low) n lower-room t.turned j k b c
-              ∙ rw (odd-half g w, odd-half h v))
-
-          fold_at : k < t.places / 2 → packed_at t.turned (t.places / 2) t.rows sums j k ≡ cut_product2_at p (folded p A) (folded p B) (t.low + j) k
-          unfolding window
-          fold_at c =
-              rw folds (packed-at (t.places / 2) t.rows (product_of p (folded_part g) s₁ (folded_part h) s₂ t.low) n lower-room t.turned j k b c
-              ∙ rw (folded-half g w m.modulus s fold-first.3 first, folded-half h v m.modulus s fold-second.3 second))
-
-        place : (j : ℕ) → j < t.rows → (i : ℕ) → i < t.places → woven_plane p t even odd sums j i ≡ product_of p g w h v t.low j i
-        unfolding woven_plane window
-        place j b i c =
-            woven_agree p t.places (even-at j b) (odd-at j b) (fold_at j b) i c ∙ sym (karatsuba m.modulus A B (t.low + j) i)
-
-        pub woven-product : {z' : List ℕ} → z' ≡ sets z 0 (packed t.turned t.places t.rows (woven_plane p t even odd sums))
-            → Multiplied p g w h v t z z'
-        woven-product e = e ∙ ap (sets z 0) (packed_agree t.turned t.places t.rows place)

@@ -1,6 +1,7 @@
 // When two answers are equal (demand 3): two calls, each of compose or of a cycle, each with its own buffers, made one after the other,
 // and the claim about what they leave. The claim and its proof for any two calls stand in the crate `two_calls`.
 #![tactic(auto)]
+
 ghost use Rattle.chain.specs.Record.{recorded};
 ghost use Rattle.definition.specs.Calls.{Compose, Cycle};
 ghost use Rattle.two_calls.specs.TwoCalls.{Equality};

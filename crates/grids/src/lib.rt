@@ -2,6 +2,7 @@
 // at equal distances. A block is a row of it, or, where there are more rows than places in them, a column: the inner loops run along the longer
 // direction.
 #![tactic(auto)]
+
 ghost use Rattle.std.specs.Prelude.{◌≡◌, ℕ, ◌+◌, ◌*◌, ◌<◌, ◌≤◌, length};
 ghost use Rattle.std.proofs.lemmas.List.Edits.{sets};
 ghost use Rattle.definition.specs.KinoshitaLi.{plane};

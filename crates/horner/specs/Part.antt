@@ -4,33 +4,31 @@
 --   PartOperands p n f b t w   what `horner_part` requires: G at the n places from b on, and 2 n places from t on apart from them
 --   Part                       the contract of `horner_part`
 --   Running                    before each turn: the coefficients from place i on are taken
---   operands_next              the places of a turn
+--   operands_next inside       the places of a turn
 --   after-a                    after step (a) the running value is g times the composition of the coefficients taken so far
---   after-b                    after step (b) it is the composition of these with the next one put before them
---   running-next               one coefficient more is taken
 --   running-small              the weight of one product more fits a word
 --   top_put                    the top coefficient is put
 --   operands-put               the operands once the top coefficient is put
 --   running-first              the top coefficient
 --   running_last               all coefficients
 -- Assumes nothing.
-use Rattle.std.specs.Prelude.{ℕ, suc, ◌+◌, ◌-◌, ◌*◌, ◌%◌, ◌<◌, ◌≤◌, ◌≡◌, List, [], ◌∷◌, get_or, drop}
-use Rattle.std.proofs.Common.{add-zero, arith, ap, ◌∙◌, drop-cons, get_or-drop}
+use Rattle.std.specs.Prelude.{ℕ, suc, ◌+◌, ◌-◌, ◌*◌, ◌%◌, ◌<◌, ◌≤◌, ◌≡◌, List, get_or, drop}
+use Rattle.std.proofs.Common.{add-zero, arith, ap, ◌∙◌, get_or-drop}
 use Rattle.std.proofs.Math.Nat.{le_refl, mul-le-mul, suc-mul, zero-add}
 use Rattle.std.proofs.Math.ListN.{length, length-drop}
 use Rattle.std.proofs.lemmas.List.Edits.{sets}
-use Rattle.algebra.specs.Composition.{composed-∷, composed-constant}
+use Rattle.algebra.specs.Composition.{composed-constant}
 use Rattle.algebra.specs.Lists.{length-tabulate}
 use Rattle.definition.specs.Lists.{coefficient, tabulate}
 use Rattle.definition.specs.Refusal.{limit}
 use Rattle.definition.specs.Substitution.{composed, constant, cut_product}
 use Rattle.definition.specs.Weight.{horner_weight}
-use Rattle.horner.specs.Steps.{Taken, constant-added}
+use Rattle.horner.specs.Steps.{Taken}
 use Rattle.buffer.specs.Segments.{segment, Apart, apart-length, apart-within}
 use Rattle.buffer.specs.Turns.{running-apart, running-inside, running_last_place, running_place}
-use Rattle.product.specs.Single.{Operands, multiplied-value, multiplied-within}
+use Rattle.product.specs.Single.{Operands, multiplied-value}
 use Rattle.route.specs.Table.{written-table}
-use Rattle.buffer.specs.Within.{Within, segment-within, within_refl, within-sets, within_trans, within_wider}
+use Rattle.buffer.specs.Within.{Within, segment-within, within_refl, within-sets, within_trans}
 
 pub record PartOperands (p n : ℕ) (f : List ℕ) (b t : ℕ) (w : List ℕ) : Type 0 where
   pub modulus : 0 < p
@@ -58,7 +56,7 @@ module _ {p n : ℕ} {f : List ℕ} {b t : ℕ} {w : List ℕ} (o : PartOperands
 
   -- a turn: the next coefficient stands at place i of f, and the running value goes from one place to the other
   module _ (i : ℕ) {from to : ℕ} (leaves : from ≡ running_place n t (suc i)) (comes : to ≡ running_place n t i) where
-    inside : (t ≤ to) × (to + n ≤ t + 2 * n)
+    pub inside : (t ≤ to) × (to + n ≤ t + 2 * n)
     inside = rw comes (running-inside n t i)
 
     pub operands_next : {v : List ℕ} → length v ≡ length w → Operands p n from b to v
@@ -81,33 +79,10 @@ module _ {p n : ℕ} {f : List ℕ} {b t : ℕ} {w : List ℕ} (o : PartOperands
       abbrev taken : List ℕ
       taken = drop (suc i) f
 
-      abbrev next : ℕ
-      next = get_or f i 0
-
       pub after-a : segment step.between to n ≡ cut_product p n (composed p n taken inner) inner
       after-a =
           multiplied-value step.multiplied (omega (arith, inside.1, o.inner.target, r.within.size))
           ∙ rw (leaves, r.value, segment-within r.within b n o.inner.apart)
-
-      pub after-b : segment v to n ≡ composed p n (next ∷ taken) inner
-      after-b =
-          rw step.added
-          (constant-added p n next (composed p n taken inner) inner o.positive step.between to after-a
-          ∙ composed-∷ o.modulus n next taken inner)
-
-      pub running-next : Running p n f b t w v i (weight + result)
-      running-next = record {
-        within =
-            within_trans r.within
-            (within_trans
-            (within_wider inside.0 inside.1 (multiplied-within step.multiplied))
-            (rw step.added
-            (within-sets step.between to (((coefficient step.between to + next) % p) ∷ []) inside.0
-            (omega (arith, o.positive, inside.1)))));
-        value = rw (← comes, drop-cons f i 0 (omega (arith, r.rest))) after-b;
-        rest = omega (arith, r.rest);
-        sum = omega (arith, r.sum, step.multiplied.places, suc-mul i n);
-      }
 
 -- the top coefficient, as the code finds it and its place
 pub top_put : (p n t : ℕ) (f w : List ℕ) {i c r : ℕ} {v : List ℕ} → i ≡ length f - 1 → c ≡ coefficient f i → r ≡ running_place n t i

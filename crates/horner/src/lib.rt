@@ -1,5 +1,6 @@
 // Route 1, Horner (document 004): from the top coefficient on, multiply by g and add the next. Route 2 takes its blocks this way too.
 #![tactic(auto)]
+
 ghost use Rattle.std.specs.Prelude.{◌≡◌, ◌+◌, ◌%◌, ◌<◌, length, set};
 ghost use Rattle.definition.specs.Lists.{coefficient};
 ghost use Rattle.definition.specs.Weight.{horner_weight};

@@ -1,5 +1,6 @@
 // The job program's answer to a file: the file is read by its header, the job composed, and the answer rendered.
 #![tactic(auto)]
+
 ghost use Rattle.std.specs.Prelude.{◌≡◌, length};
 ghost use Rattle.definition.specs.Calls.{Job, Render};
 ghost use Rattle.definition.specs.Job.{most_places, order};

@@ -1,5 +1,6 @@
 // The job file: its numbers and lists, read by its header, and the tests 12 and 13.
 #![tactic(auto)]
+
 ghost use Rattle.std.specs.Prelude.{false, ◌≡◌, ◌+◌, ◌*◌, ◌<◌, ◌≤◌, length};
 ghost use Rattle.definition.specs.Job.{cut_short, field, list_at, misplaced, too_large, word};
 ghost use Rattle.job_file.specs.File.{Front, Stated};

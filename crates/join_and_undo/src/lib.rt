@@ -1,6 +1,7 @@
 // A chain cut in two and joined again, and a cycle undone (N6): the calls that do so, made one after the other, and what they leave. The
 // theorems over the calls stand in the crate `sequence`.
 #![tactic(auto)]
+
 ghost use Rattle.std.specs.Prelude.{ℕ, List, ◌≡◌};
 ghost use Rattle.chain.specs.Record.{recorded};
 ghost use Rattle.definition.specs.Calls.{Compose, Cycle, Reverse};

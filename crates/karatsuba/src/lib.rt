@@ -1,6 +1,7 @@
 // Cut products of long lists modulo p by Karatsuba's rule. The even and the odd places of both factors and the sums of neighbours give three
 // products of half the length, and these are woven into the product.
 #![tactic(auto)]
+
 ghost use Rattle.std.specs.Prelude.{◌≡◌, take};
 ghost use Rattle.definition.specs.Substitution.{cut_product};
 ghost use Rattle.karatsuba.specs.Room.{Room, Third, ThirdRoom};

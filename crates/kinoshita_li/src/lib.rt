@@ -1,5 +1,6 @@
 // Route 4, Kinoshita and Li (document 001, Algorithm 2): f(g) modulo x^n as a coefficient of P / (1 - y g), by halving the order in x.
 #![tactic(auto)]
+
 ghost use Rattle.std.specs.Prelude.{length};
 ghost use Rattle.definition.specs.Weight.{kinoshita_li_weight};
 ghost use Rattle.kinoshita_li.specs.Whole.{Fraction, FractionLent};

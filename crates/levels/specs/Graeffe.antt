@@ -19,7 +19,7 @@ use Rattle.definition.specs.KinoshitaLi.{cut_product2_at, even_part, opposite, p
 use Rattle.definition.specs.Lists.{ceil_div}
 use Rattle.opposite_product.specs.Opposite.{OppositeRoom}
 use Rattle.spread_product.specs.Spread.{SpreadRoom}
-use Rattle.planes.specs.Parity.{odd_part, odd_part-squared}
+use Rattle.planes.specs.Parity.{odd_part-squared}
 use Rattle.product.specs.Double.{product_of}
 use Rattle.product.specs.Planes.{held, held_kept}
 use Rattle.buffer.specs.Segments.{segment, length-segment}

@@ -6,7 +6,7 @@
 --   last_room last_level     the last level
 --   level_bounded level_parts level_next level_again   what the layout of a level, its first half, the next level and its second half
 --                require
---   level_done   from what they ensure, what the level ensures
+--   done         from what they ensure, what the level ensures, where the rest has not come back
 -- Assumes nothing.
 use Prim.Native.Nat.{ℕ, suc, ◌+◌, ◌-◌, ◌*◌, ◌^◌, ◌<◌, ◌≤◌}
 use Rattle.std.proofs.Math.Nat.{add-mul, mul-add, mul_assoc, mul_comm, mul-le-mul_left, mul-le-mul_right, mul-one, one-mul}
@@ -232,7 +232,7 @@ module _ {p levels K r q d : ℕ} {f w : List ℕ} (lent : LevelLent p levels r 
     again : Parts p r s y
     again = parts-length (behind.size ∙ size_v) parts
 
-    done : {z : List ℕ} {s₃ : ℕ} → Expanded p r s y z s₃ → Levelled p levels r q d f w z (s₁ + s₂ + s₃)
+    pub done : {z : List ℕ} {s₃ : ℕ} → Expanded p r s y z s₃ → Levelled p levels r q d f w z (s₁ + s₂ + s₃)
     unfolding layout_of levels-list kinoshita_li_levels
     done up = record {
       rows = up.rows ∙ rw (half-result, factor, deeper);
@@ -274,6 +274,3 @@ module _ {p levels K r q d : ℕ} {f w : List ℕ} {s : Layout} (lent : LevelLen
 
     pub level_again : Parts p r s back
     level_again = rw (rest_back, placed) (again lent deeper (rw placed at down) (rw (rest-lent, placed) at below))
-
-    pub level_done : {z : List ℕ} {s₃ : ℕ} → Expanded p r s back z s₃ → Levelled p levels r q d f w z (s₁ + s₂ + s₃)
-    level_done up = done lent deeper (rw placed at down) (rw (rest-lent, placed) at below) (rw (rest_back, placed) at up)

@@ -1,5 +1,6 @@
 // The levels: each forms the denominator of the next one at half the order, and its result from the result of the next one.
 #![tactic(auto)]
+
 ghost use Rattle.std.specs.Prelude.{◌≡◌, ◌<◌, ◌≤◌};
 ghost use Rattle.definition.specs.Refusal.{limit};
 ghost use Rattle.definition.specs.Weight.{degree_bound};

@@ -1,6 +1,7 @@
 // Newton's step for a reverse series: from h below the order half to h - (g(h) - x) h' modulo p below n. The error g(h) - x has no power below half,
 // so that the places of h below half stay, and the product is one at the order n - half.
 #![tactic(auto)]
+
 ghost use Rattle.std.specs.Prelude.{◌≡◌, ◌+◌, ◌<◌, ◌≤◌, length};
 ghost use Rattle.std.proofs.lemmas.List.Edits.{sets};
 ghost use Rattle.definition.specs.Lists.{coefficient};

@@ -1,6 +1,7 @@
 // The steps of route 3 (document 000, section 2), on places of one lent buffer: the parts of f by powers modulo p, the p-th powers of g's coefficients,
 // and x^p put for y.
 #![tactic(auto)]
+
 ghost use Rattle.std.specs.Prelude.{◌≡◌, ◌+◌, ◌-◌, ◌<◌, ◌^◌, min};
 ghost use Rattle.std.proofs.lemmas.List.Edits.{sets};
 ghost use Rattle.definition.specs.Bernstein.{pth_powers, spread, spread_list};

@@ -44,24 +44,24 @@ sum-reverse (suc n) f =
     rw (sum-naturals, Sum.sum_first naturals n (λ k. f (suc n - suc k)), ← sum-naturals, e)
     (simp suc-sub-suc (rw (sum-reverse n f) (add_comm (f n) (sum n f))))
 
-sum-symmetric : (j : ℕ) (f : ℕ → ℕ) → ((l : ℕ) → l ≤ j → f (j - l) ≡ f l)
-    → sum (suc j) f ≡ sum ((j + 1) / 2) f + sum (j / 2 + 1) f
-sum-symmetric j f h =
-    let e : suc j ≡ j / 2 + 1 + (j + 1) / 2 = omega arith in
-    rw (e, sum-naturals, Sum.sum-+ naturals, ← sum-naturals, ← sum-naturals)
-    (add_comm _ _
-    ∙ ap (λ s. s + sum (j / 2 + 1) f) (sum_cong ((j + 1) / 2) _ _ above ∙ sum-reverse ((j + 1) / 2) f))
-  where
-    above : (k : ℕ) → k < (j + 1) / 2 → f (j / 2 + 1 + k) ≡ f ((j + 1) / 2 - suc k)
-    above k b =
-        let e : j / 2 + 1 + k ≡ j - ((j + 1) / 2 - suc k) = omega arith in
-        rw e (h ((j + 1) / 2 - suc k) (omega arith))
-
 pub square : (a : ℕ → ℕ → ℕ) (j i : ℕ)
     → product2 a a j i ≡ sum ((j + 1) / 2) (product2_term a a j i) + sum (j / 2 + 1) (product2_term a a j i)
 unfolding product2 product2_term
 square a j i = sum-symmetric j (product2_term a a j i) exchanged
   where
+    sum-symmetric : (j : ℕ) (f : ℕ → ℕ) → ((l : ℕ) → l ≤ j → f (j - l) ≡ f l)
+        → sum (suc j) f ≡ sum ((j + 1) / 2) f + sum (j / 2 + 1) f
+    sum-symmetric j f h =
+        let e : suc j ≡ j / 2 + 1 + (j + 1) / 2 = omega arith in
+        rw (e, sum-naturals, Sum.sum-+ naturals, ← sum-naturals, ← sum-naturals)
+        (add_comm _ _
+        ∙ ap (λ s. s + sum (j / 2 + 1) f) (sum_cong ((j + 1) / 2) _ _ above ∙ sum-reverse ((j + 1) / 2) f))
+      where
+        above : (k : ℕ) → k < (j + 1) / 2 → f (j / 2 + 1 + k) ≡ f ((j + 1) / 2 - suc k)
+        above k b =
+            let e : j / 2 + 1 + k ≡ j - ((j + 1) / 2 - suc k) = omega arith in
+            rw e (h ((j + 1) / 2 - suc k) (omega arith))
+
     exchanged : (l : ℕ) → l ≤ j → product2_term a a j i (j - l) ≡ product2_term a a j i l
     exchanged l b =
         let e : j - (j - l) ≡ l = omega arith in

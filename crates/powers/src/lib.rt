@@ -1,6 +1,7 @@
 // The powers of the inner list that the joins of route 2 need: g^b for blocks of b places, g^(2b), g^(4b) and on. The inner list stands at place 0 of the work
 // buffer, its powers after it.
 #![tactic(auto)]
+
 ghost use Rattle.std.specs.Prelude.{◌≡◌, ◌-◌, ◌<◌, ◌≤◌};
 ghost use Rattle.std.specs.Int.Count.{count_leading_zeros, ones};
 ghost use Rattle.definition.specs.Refusal.{longest_block};

@@ -1,6 +1,7 @@
 // Cut products modulo p, on parts of one lent buffer. Each gives back the number of places that it is cut to, as a weight, which only this crate
 // makes: a route's weight can then be nothing but a sum of what products gave back.
 #![tactic(auto)]
+
 ghost use Rattle.std.specs.Prelude.{◌≡◌, ◌+◌, ◌*◌, ◌<◌, ◌≤◌, ◌^◌};
 ghost use Rattle.definition.specs.Lists.{ceil_div};
 ghost use Rattle.opposite_product.specs.Opposite.{OppositeRoom};

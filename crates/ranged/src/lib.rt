@@ -1,6 +1,7 @@
 // Route 2, ranged Horner (document 004, Algorithm 2): blocks of the outer list by Horner, joined in pairs with powers of the inner list.
 // The inner list stands at place 0 of the work buffer, its powers after it. The joins go depth first, so that few results are kept.
 #![tactic(auto)]
+
 ghost use Rattle.std.specs.Prelude.{◌≡◌, length, ◌+◌, ◌*◌, ◌^◌, ◌<◌, ◌≤◌, min};
 ghost use Rattle.definition.specs.Lists.{ceil_div};
 ghost use Rattle.definition.specs.Ranged.{block};

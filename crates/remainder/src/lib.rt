@@ -1,6 +1,7 @@
 // The remainders modulo p of sums that are kept in two parts: a sum modulo 2^64, and beside it a count of 2^32 that falls short of it by less than
 // 2^46 (`rows` makes such sums).
 #![tactic(auto)]
+
 ghost use Rattle.std.specs.Prelude.{◌≡◌, ◌+◌, ◌-◌, ◌*◌, ◌/◌, ◌%◌, ◌^◌, ◌<◌, ◌≤◌, length};
 ghost use Rattle.std.proofs.lemmas.List.Edits.{sets};
 ghost use Rattle.remainder.specs.Inverse.{Between};

@@ -1,5 +1,6 @@
 // Residues modulo p, without a division by p where the numbers are residues already.
 #![tactic(auto)]
+
 ghost use Rattle.std.specs.Prelude.{◌≡◌, ◌+◌, ◌*◌, ◌%◌, ◌^◌, ◌<◌, ◌≤◌};
 ghost use Rattle.definition.specs.KinoshitaLi.{negative};
 

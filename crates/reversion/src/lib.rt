@@ -1,5 +1,6 @@
 // Reversion by Newton's iteration: h without constant term such that g(h) is x modulo x^n.
 #![tactic(auto)]
+
 ghost use Rattle.std.specs.Prelude.{◌≡◌, ◌<◌, length};
 ghost use Rattle.definition.specs.Calls.{Reverse};
 ghost use Rattle.newton_step.specs.Step.{Reversed};

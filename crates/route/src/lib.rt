@@ -1,5 +1,6 @@
 // What the four routes share: lists put into the work buffer and added there, the answer taken out of it, and the contract of a route (specs).
 #![tactic(auto)]
+
 ghost use Rattle.std.specs.Prelude.{◌≡◌, ◌+◌, ◌<◌, ◌≤◌, length};
 ghost use Rattle.std.proofs.lemmas.List.Edits.{sets};
 ghost use Rattle.buffer.specs.Segments.{segment};

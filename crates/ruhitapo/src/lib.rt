@@ -1,6 +1,7 @@
 // The C interface: compose, reverse, the calls of a chain, the table of primes and rendering as C functions; compose and the cycle with a block
 // length for route 2, and without one. A slice passes as its pointer and its count.
 #![tactic(auto)]
+
 ghost use Rattle.chain.specs.Record.{recorded};
 ghost use Rattle.definition.specs.Calls.{Compose, Cycle, Open, Render, Reverse, Table};
 ghost use Rattle.definition.specs.Ranged.{block_length};

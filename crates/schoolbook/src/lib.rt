@@ -1,6 +1,7 @@
 // The product of two lists modulo p, cut to at most 128 places, as by hand: the rows are added to exact sums (`rows`), and the remainder of a
 // place is taken once.
 #![tactic(auto)]
+
 ghost use Rattle.std.specs.Prelude.{◌≡◌, ◌+◌, ◌<◌, ◌≤◌, length};
 ghost use Rattle.std.proofs.lemmas.List.Edits.{sets};
 ghost use Rattle.definition.specs.Substitution.{cut_product};

@@ -1,6 +1,7 @@
 // Cut products of any number of places modulo p, on parts of one lent buffer: the product of two parts is added to a third, in the way that is
 // quickest for so many places.
 #![tactic(auto)]
+
 ghost use Rattle.std.specs.Prelude.{◌≡◌, ◌≤◌};
 ghost use Rattle.std.proofs.lemmas.List.Edits.{sets};
 ghost use Rattle.added_product.specs.Added.{Added, Parts};

@@ -1,5 +1,6 @@
 // The product of parts of two lists, added to sums that are kept exact (`rows`), whatever the modulus.
 #![tactic(auto)]
+
 ghost use Rattle.std.specs.Prelude.{true, ◌≡◌, ℕ, ◌+◌, ◌≤◌, ◌<◌, get_or, length};
 ghost use Rattle.rows.specs.Rows.{Factors, Passed};
 ghost use Rattle.summed_product.specs.Terms.{Added, Pair, PassAt, product_of, rows_of};

@@ -1,20 +1,8 @@
 -- `bernstein::level`, `join_parts` and `part_value` meet their contracts. Assumes nothing.
-use Rattle.std.specs.Prelude.{ℕ, suc, ◌+◌, ◌-◌, ◌<◌, ◌≡◌, ◌^◌}
+use Rattle.std.specs.Prelude.{ℕ, suc, ◌-◌, ◌≡◌}
 use Rattle.std.proofs.Common.{arith, rules}
 use Rattle.bernstein.specs.Level.{level_constant}
-use Rattle.bernstein.specs.Loop.{
-  PartsJoined,
-  Prepared,
-  level_rebased,
-  parts_first,
-  parts_level,
-  parts_rebased,
-  parts-room,
-  parts-small,
-  parts_turn,
-  prepared-first,
-  prepared_ready,
-}
+use Rattle.bernstein.specs.Loop.{PartsJoined, Prepared, level_rebased, parts_first, parts_level, parts_rebased, parts-small, parts_turn, prepared-first, prepared_ready}
 use Rattle.bernstein.specs.Rest.{fewer, rest-fits, part-value-written, room-part, room-rest, room-spread}
 use Rattle.bernstein.proofs.+join_parts_level_part_value.Goals as goal
 use Rattle.bernstein.proofs.+join_parts_level_part_value.Goals.{join_parts-After-prepare, join_parts-After-copy_part}

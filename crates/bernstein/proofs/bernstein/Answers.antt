@@ -1,5 +1,4 @@
 -- `bernstein::bernstein` meets its contract. Assumes nothing.
-use borrow.Author.Rules.{rules}
 use Rattle.buffer.specs.Segments.{copy_down}
 use native.Mathlib.Omega.{arith}
 use Prim.Native.Nat.{◌+◌}

@@ -1,5 +1,4 @@
 -- `bernstein::constant` meets its contract. Assumes nothing.
-use borrow.Author.Rules.{rules}
 use native.Mathlib.Nat.{add-sub_cancel_left}
 use native.Mathlib.Omega.{arith}
 use Prim.Native.Nat.{◌≤◌}

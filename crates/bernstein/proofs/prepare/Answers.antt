@@ -1,5 +1,4 @@
 -- `bernstein::prepare` meets its contract. Assumes nothing.
-use borrow.Author.Rules.{rules}
 use mathlib.Core.Path.{◌∙◌}
 use Rattle.bernstein.specs.Loop.{room-powers}
 use Rattle.bernstein.proofs.prepare.Goals as goal

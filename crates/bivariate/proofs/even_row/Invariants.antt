@@ -1,11 +1,8 @@
 -- `bivariate::even_row` meets its contract. Assumes nothing.
-use borrow.Author.Rules.{rules}
 use Prim.Native.Nat.{◌-◌}
-use mathlib.Core.Path.{◌∙◌}
-use Rattle.buffer.specs.Filling.{Filling, filling_first, filling_last, filling_next}
+use Rattle.buffer.specs.Filling.{Filling}
 use Rattle.definition.specs.KinoshitaLi.{even_part}
 use Rattle.product.specs.Planes.{held}
-use Rattle.bivariate.specs.Steps.{filling_held}
 use Rattle.bivariate.proofs.even_row.Given as goal
 
 abbrev pub invariant-loop-i : goal.invariant-loop-i

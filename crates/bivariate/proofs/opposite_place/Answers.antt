@@ -1,5 +1,4 @@
 -- `bivariate::opposite_place` meets its contract, by the parity of i. Assumes nothing.
-use borrow.Author.Rules.{rules}
 use borrow.Author.Tests.{eq-eqb, ne_eqb}
 use mathlib.Core.Path.{◌∙◌}
 use Rattle.definition.specs.KinoshitaLi.{opposite}

@@ -1,12 +1,10 @@
 -- `bivariate::squared` meets its contract: after j turns the first j rows are written. Assumes nothing.
-use borrow.Author.Rules.{rules}
 use native.Mathlib.Omega.{arith}
-use Prim.Native.Nat.{◌+◌, ◌*◌, ◌-◌}
+use Prim.Native.Nat.{◌+◌, ◌*◌}
 use native.Mathlib.Nat.{mul-le-mul_right, zero-mul}
 use mathlib.Core.Path.{◌∙◌}
-use Rattle.buffer.specs.Filling.{Filling, filling_first, filling_last}
-use Rattle.definition.specs.KinoshitaLi.{plane, plane_place, squared}
-use Rattle.product.specs.Planes.{held}
+use Rattle.buffer.specs.Filling.{filling_first, filling_last}
+use Rattle.definition.specs.KinoshitaLi.{plane}
 use Rattle.bivariate.specs.Steps.{Source, filling_held, filling_row, source_row}
 use Rattle.bivariate.proofs.squared.Goals as goal
 use Rattle.bivariate.proofs.squared.Goals.{In-loop-j}

@@ -1,5 +1,4 @@
 -- `bivariate::squared_place` meets its contract, by the parity of i. Assumes nothing.
-use borrow.Author.Rules.{rules}
 use borrow.Author.Tests.{eq-eqb, ne_eqb}
 use Rattle.definition.specs.Bernstein.{spread}
 use Rattle.definition.specs.KinoshitaLi.{squared}

@@ -1,10 +1,6 @@
 -- `bivariate::squared_row` meets its contract. Assumes nothing.
-use borrow.Author.Rules.{rules}
-use Prim.Native.Nat.{◌-◌}
 use mathlib.Core.Path.{◌∙◌}
-use Rattle.buffer.specs.Filling.{Filling, filling_first, filling_last, filling_next}
-use Rattle.definition.specs.KinoshitaLi.{squared}
-use Rattle.product.specs.Planes.{held}
+use Rattle.buffer.specs.Filling.{filling_first, filling_last, filling_next}
 use Rattle.bivariate.specs.Steps.{filling_held}
 use Rattle.bivariate.proofs.squared_row.Goals as goal
 

@@ -1,13 +1,11 @@
 -- `block_product::multiply` meets its contract: the first k results are there. Assumes nothing.
-use borrow.Author.Rules.{rules}
-use native.Mathlib.Omega.{arith}
-use Prim.Native.Nat.{◌+◌, ◌*◌, ◌-◌, ◌<◌, ◌≤◌}
+use Prim.Native.Nat.{◌+◌, ◌-◌, ◌≤◌}
 use lib.ListN.{length}
 use lib.Seq.{sets}
 use Rattle.definition.specs.KinoshitaLi.{plane}
 use Rattle.blocks.specs.Blocks.{blocks_of}
-use Rattle.block_product.specs.Results.{result_fits, result-rooms, results-first, results_next, window_at}
-use mathlib.Core.Path.{◌≡◌, refl}
+use Rattle.block_product.specs.Results.{window_at}
+use mathlib.Core.Path.{◌≡◌}
 use Rattle.block_product.proofs.multiply.Given as goal
 
 abbrev pub invariant-loop-k : goal.invariant-loop-k

@@ -1,13 +1,11 @@
 -- `block_product::result` meets its contract: the places below k are there. Assumes nothing.
-use borrow.Author.Rules.{rules}
-use native.Mathlib.Omega.{arith}
 use Prim.Native.Nat.{◌-◌, ◌≤◌}
 use lib.ListN.{length}
 use lib.Seq.{sets}
 use Rattle.definition.specs.Lists.{tabulate}
 use Rattle.blocks.specs.Blocks.{blocks_of}
-use Rattle.block_product.specs.Results.{tile_first, tile_last, tile_next, tile_rooms, window_at}
-use mathlib.Core.Path.{◌≡◌, refl}
+use Rattle.block_product.specs.Results.{window_at}
+use mathlib.Core.Path.{◌≡◌}
 use Rattle.block_product.proofs.result.Given as goal
 
 abbrev pub invariant-loop-k : goal.invariant-loop-k

@@ -2,11 +2,10 @@
 use borrow.Author.Rules.{rules}
 use native.Mathlib.Nat.{le_refl}
 use native.Mathlib.Omega.{arith}
-use Prim.Native.Nat.{◌+◌, ◌*◌, ◌-◌, ◌<◌, ◌≤◌}
-use lib.ListN.{length}
-use Rattle.summed_product.specs.Terms.{Added, added_more, added_none}
-use Rattle.blocks.specs.Blocks.{blocks_of, pair_of, pairs_count, pairs_done, pairs_next, pairs_none, pairs_sum}
-use mathlib.Core.Path.{◌≡◌, refl}
+use Prim.Native.Nat.{◌+◌, ◌-◌, ◌<◌, ◌≤◌}
+use Rattle.summed_product.specs.Terms.{added_more, added_none}
+use Rattle.blocks.specs.Blocks.{pair_of, pairs_count, pairs_done, pairs_next, pairs_none}
+use mathlib.Core.Path.{refl}
 use Rattle.blocks.proofs.add_pairs.Goals as goal
 use Rattle.blocks.proofs.add_pairs.Goals.{In-loop-l}
 

@@ -1,12 +1,9 @@
 -- `blocks::add_pairs` meets its contract: the pairs below l are added. Assumes nothing.
-use borrow.Author.Rules.{rules}
-use native.Mathlib.Nat.{le_refl}
-use native.Mathlib.Omega.{arith}
-use Prim.Native.Nat.{◌+◌, ◌*◌, ◌-◌, ◌<◌, ◌≤◌}
+use Prim.Native.Nat.{◌+◌, ◌*◌, ◌-◌, ◌≤◌}
 use lib.ListN.{length}
-use Rattle.summed_product.specs.Terms.{Added, added_more, added_none}
-use Rattle.blocks.specs.Blocks.{blocks_of, pair_of, pairs_count, pairs_done, pairs_next, pairs_none, pairs_sum}
-use mathlib.Core.Path.{◌≡◌, refl}
+use Rattle.summed_product.specs.Terms.{Added}
+use Rattle.blocks.specs.Blocks.{blocks_of, pairs_sum}
+use mathlib.Core.Path.{◌≡◌}
 use Rattle.blocks.proofs.add_pairs.Given as goal
 
 abbrev pub invariant-loop-l : goal.invariant-loop-l

@@ -1,11 +1,9 @@
 -- `blocks::clear` meets its contract: the places below t are clear. Assumes nothing.
 use borrow.Author.Rules.{rules}
 use native.Mathlib.Omega.{arith}
-use Prim.Native.Nat.{◌-◌, ◌≤◌}
-use lib.ListN.{length}
 use Rattle.summed_product.specs.Sums.{sums_none}
-use Rattle.blocks.specs.Blocks.{Changed, changed_next, changed_none}
-use mathlib.Core.Path.{◌≡◌, refl}
+use Rattle.blocks.specs.Blocks.{changed_next, changed_none}
+use mathlib.Core.Path.{refl}
 use Rattle.blocks.proofs.clear.Goals as goal
 
 pub loop-t-init : goal.loop-t-init
@@ -13,8 +11,7 @@ loop-t-init c = (omega arith, refl, refl, changed_none, changed_none)
 
 pub loop-t-preserved : goal.loop-t-preserved
 loop-t-preserved c =
-    let inv = c.loop-t.invariant in
-    (
+    let inv = c.loop-t.invariant in (
       omega (arith, c.loop-t-test.true),
       search rules,
       search rules,

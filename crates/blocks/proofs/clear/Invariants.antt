@@ -1,11 +1,8 @@
 -- `blocks::clear` meets its contract: the places below t are clear. Assumes nothing.
-use borrow.Author.Rules.{rules}
-use native.Mathlib.Omega.{arith}
 use Prim.Native.Nat.{◌-◌, ◌≤◌}
 use lib.ListN.{length}
-use Rattle.summed_product.specs.Sums.{sums_none}
-use Rattle.blocks.specs.Blocks.{Changed, changed_next, changed_none}
-use mathlib.Core.Path.{◌≡◌, refl}
+use Rattle.blocks.specs.Blocks.{Changed}
+use mathlib.Core.Path.{◌≡◌}
 use Rattle.blocks.proofs.clear.Given as goal
 
 abbrev pub invariant-loop-t : goal.invariant-loop-t

@@ -1,9 +1,7 @@
 -- `blocks::double` meets its contract: the places below t are doubled. Assumes nothing.
-use borrow.Author.Rules.{rules}
 use native.Mathlib.Omega.{arith}
-use Prim.Native.Nat.{◌+◌, ◌-◌, ◌≤◌, ◌%◌, ◌^◌}
-use lib.ListN.{length, length-set}
-use Rattle.blocks.specs.Blocks.{Changed, changed_next, changed_none}
+use lib.ListN.{length-set}
+use Rattle.blocks.specs.Blocks.{changed_next, changed_none}
 use mathlib.Core.Path.{◌≡◌, refl}
 use Rattle.blocks.proofs.double.Goals as goal
 

@@ -1,10 +1,8 @@
 -- `blocks::double` meets its contract: the places below t are doubled. Assumes nothing.
-use borrow.Author.Rules.{rules}
-use native.Mathlib.Omega.{arith}
 use Prim.Native.Nat.{◌+◌, ◌-◌, ◌≤◌, ◌%◌, ◌^◌}
-use lib.ListN.{length, length-set}
-use Rattle.blocks.specs.Blocks.{Changed, changed_next, changed_none}
-use mathlib.Core.Path.{◌≡◌, refl}
+use lib.ListN.{length}
+use Rattle.blocks.specs.Blocks.{Changed}
+use mathlib.Core.Path.{◌≡◌}
 use Rattle.blocks.proofs.double.Given as goal
 
 abbrev pub invariant-loop-t : goal.invariant-loop-t

@@ -1,5 +1,4 @@
 -- `blocks::sum_up` meets its contract. Assumes nothing.
-use borrow.Author.Rules.{rules}
 use Rattle.blocks.specs.Blocks.{square-factors, square-sums}
 use Rattle.blocks.proofs.sum_up.Goals as goal
 

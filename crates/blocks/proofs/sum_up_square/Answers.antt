@@ -6,15 +6,14 @@ use mathlib.Core.Path.{refl}
 use Rattle.blocks.proofs.sum_up_square.Goals as goal
 
 pub sum_up_twice-requires : goal.sum_up_twice-requires
-sum_up_twice-requires c =
-    (
-      record {
-        factors = c.requires.0;
-        rooms = rooms-length (search rules) (search rules) c.requires.1;
-        inside = inside-half c.excess-from.ensures refl;
-      },
-      omega (arith, c.excess-from.ensures),
-    )
+sum_up_twice-requires c = (
+  record {
+    factors = c.requires.0;
+    rooms = rooms-length (search rules) (search rules) c.requires.1;
+    inside = inside-half c.excess-from.ensures refl;
+  },
+  omega (arith, c.excess-from.ensures),
+)
 
 pub add_pairs-requires : goal.add_pairs-requires
 add_pairs-requires c =

@@ -1,5 +1,4 @@
 -- `blocks::sum_up_twice` meets its contract. Assumes nothing.
-use borrow.Author.Rules.{rules}
 use Rattle.blocks.specs.Blocks.{summed_twice}
 use Rattle.blocks.proofs.sum_up_twice.Goals as goal
 

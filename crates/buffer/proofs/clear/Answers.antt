@@ -3,10 +3,7 @@
 use borrow.Author.Rules.{rules}
 use borrow.Author.Fill.{fill_more}
 use native.Mathlib.Omega.{arith}
-use Prim.Native.Nat.{◌-◌, ◌≤◌}
 use mathlib.Core.Path.{◌≡◌}
-use mathlib.Core.List.{◌++◌}
-use lib.ListN.{length, drop, replicate}
 use Rattle.definition.specs.Answer.{cleared}
 use Rattle.buffer.proofs.clear.Goals as goal
 

@@ -1,13 +1,9 @@
 -- `buffer::clear` meets its contract: after i turns the first i places are zero and the rest is as it was.
 -- Assumes nothing.
-use borrow.Author.Rules.{rules}
-use borrow.Author.Fill.{fill_more}
-use native.Mathlib.Omega.{arith}
 use Prim.Native.Nat.{◌-◌, ◌≤◌}
 use mathlib.Core.Path.{◌≡◌}
 use mathlib.Core.List.{◌++◌}
 use lib.ListN.{length, drop, replicate}
-use Rattle.definition.specs.Answer.{cleared}
 use Rattle.buffer.proofs.clear.Given as goal
 
 abbrev pub invariant-loop-i : goal.invariant-loop-i

@@ -1,5 +1,4 @@
 -- `buffer::clear_part` meets its contract: the part that is lent comes back cleared. Assumes nothing.
-use borrow.Author.Rules.{rules}
 use native.Mathlib.Nat.{add-sub_cancel_left}
 use Rattle.buffer.specs.Written.{cleared-part}
 use Rattle.buffer.proofs.clear_part.Goals as goal

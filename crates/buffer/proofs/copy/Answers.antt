@@ -2,11 +2,10 @@
 -- Assumes nothing.
 use borrow.Author.Rules.{rules}
 use native.Mathlib.Omega.{arith}
-use Prim.Native.Nat.{◌-◌, ◌≤◌}
 use native.Mathlib.Nat.{zero-add}
 use mathlib.Core.Path.{◌≡◌, refl, ◌∙◌}
-use lib.ListN.{length, take}
-use lib.Seq.{sets, take-length}
+use lib.ListN.{length}
+use lib.Seq.{take-length}
 use Rattle.buffer.specs.Written.{sets-take, sets-front}
 use Rattle.buffer.proofs.copy.Goals as goal
 

@@ -1,8 +1,7 @@
 -- `buffer::effective_length` meets its contract: the effective length is that of the places not yet read. Assumes nothing.
 use borrow.Author.Rules.{rules}
 use native.Mathlib.Omega.{arith}
-use Prim.Native.Nat.{suc, ◌-◌, ◌≤◌}
-use lib.ListN.{length}
+use Prim.Native.Nat.{suc, ◌-◌}
 use mathlib.Core.Path.{◌≡◌, sym, ap, ◌∙◌}
 use Rattle.algebra.specs.Effective.{effective_found, effective_next}
 use Rattle.definition.specs.Lists.{coefficient, effective_below, effective_length}

@@ -1,11 +1,8 @@
 -- `buffer::effective_length` meets its contract: the effective length is that of the places not yet read. Assumes nothing.
-use borrow.Author.Rules.{rules}
-use native.Mathlib.Omega.{arith}
-use Prim.Native.Nat.{suc, ◌-◌, ◌≤◌}
+use Prim.Native.Nat.{◌≤◌}
 use lib.ListN.{length}
-use mathlib.Core.Path.{◌≡◌, sym, ap, ◌∙◌}
-use Rattle.algebra.specs.Effective.{effective_found, effective_next}
-use Rattle.definition.specs.Lists.{coefficient, effective_below, effective_length}
+use mathlib.Core.Path.{◌≡◌}
+use Rattle.definition.specs.Lists.{effective_below, effective_length}
 use Rattle.buffer.proofs.effective_length.Given as goal
 
 abbrev pub invariant-loop-k : goal.invariant-loop-k

@@ -1,13 +1,9 @@
 -- `buffer::exceeds` meets its contract: the answer for the whole list is that for the places not yet read.
 -- Assumes nothing.
-use borrow.Author.Rules.{rules}
-use native.Mathlib.Omega.{arith}
 use Prim.Native.Nat.{◌-◌, ◌≤◌}
-use mathlib.Core.Path.{◌≡◌, sym, ◌∙◌}
+use mathlib.Core.Path.{◌≡◌}
 use lib.ListN.{length, drop}
-use lib.Seq.{drop-length}
 use Rattle.definition.specs.Refusal as refusal
-use Rattle.buffer.specs.Bounded.{exceeds-next, exceeds_found}
 use Rattle.buffer.proofs.exceeds.Given as goal
 
 abbrev pub invariant-loop-i : goal.invariant-loop-i

@@ -1,5 +1,4 @@
 -- `denominator::denominator_place` meets its contract, by the power of y. Assumes nothing.
-use borrow.Author.Rules.{rules}
 use mathlib.Core.Path.{sym, ◌∙◌}
 use Rattle.definition.specs.KinoshitaLi.{denominator}
 use Rattle.definition.specs.Substitution.{constant}

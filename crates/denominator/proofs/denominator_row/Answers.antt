@@ -1,8 +1,5 @@
 -- `denominator::denominator_row` meets its contract. Assumes nothing.
-use borrow.Author.Rules.{rules}
-use Prim.Native.Nat.{◌-◌}
-use Rattle.buffer.specs.Filling.{Filling, filling_first, filling_last, filling_next}
-use Rattle.definition.specs.KinoshitaLi.{denominator}
+use Rattle.buffer.specs.Filling.{filling_first, filling_last, filling_next}
 use Rattle.denominator.proofs.denominator_row.Goals as goal
 
 pub loop-i-init : goal.loop-i-init

@@ -1,7 +1,6 @@
 -- `denominator::denominator_row` meets its contract. Assumes nothing.
-use borrow.Author.Rules.{rules}
 use Prim.Native.Nat.{◌-◌}
-use Rattle.buffer.specs.Filling.{Filling, filling_first, filling_last, filling_next}
+use Rattle.buffer.specs.Filling.{Filling}
 use Rattle.definition.specs.KinoshitaLi.{denominator}
 use Rattle.denominator.proofs.denominator_row.Given as goal
 

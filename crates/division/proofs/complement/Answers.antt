@@ -1,13 +1,8 @@
 -- `division::complement` meets its contract. Assumes nothing.
-use borrow.Author.Rules.{rules}
 use native.Mathlib.Omega.{arith}
-use Prim.Native.Nat.{◌-◌}
 use lib.Seq.{length-take-le}
 use mathlib.Core.Path.{sym, ◌∙◌}
-use Rattle.buffer.specs.Filling.{Filling, filling_first, filling_last, filling_next}
-use Rattle.definition.specs.Lists.{coefficient}
-use Rattle.buffer.specs.Segments.{segment}
-use Rattle.division.specs.Quotient.{complement}
+use Rattle.buffer.specs.Filling.{filling_first, filling_last, filling_next}
 use Rattle.route.specs.Filling.{filling_kept}
 use Rattle.division.proofs.complement.Goals as goal
 

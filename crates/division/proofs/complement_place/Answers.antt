@@ -1,5 +1,4 @@
 -- `division::complement_place` meets its contract, by the power. Assumes nothing.
-use borrow.Author.Rules.{rules}
 use mathlib.Core.Path.{sym, ◌∙◌}
 use Rattle.division.specs.Quotient.{complement, complement-suc}
 use Rattle.division.proofs.complement_place.Goals as goal

@@ -1,5 +1,4 @@
 -- `division::double` meets its contract: the places behind the first k of the inverse are cleared, and then written. Assumes nothing.
-use borrow.Author.Rules.{rules}
 use native.Mathlib.Omega.{arith}
 use mathlib.Core.Logic.{inl, inr}
 use Rattle.division.specs.Doubling.{inverted_doubled}

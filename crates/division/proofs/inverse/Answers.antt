@@ -1,10 +1,8 @@
 -- `division::inverse` meets its contract. The loop's invariant: below k the inverse is written. The measure is what is left of m.
 -- Assumes nothing.
-use borrow.Author.Rules.{rules}
 use native.Mathlib.Omega.{arith}
-use Prim.Native.Nat.{◌-◌, ◌<◌, ◌≤◌}
 use mathlib.Core.Path.{◌≡◌}
-use Rattle.division.specs.Doubling.{Inverted, inverted_first, inverted_next, inverted_none}
+use Rattle.division.specs.Doubling.{inverted_first, inverted_next, inverted_none}
 use Rattle.buffer.specs.Within.{within_refl}
 use Rattle.division.proofs.inverse.Goals as goal
 

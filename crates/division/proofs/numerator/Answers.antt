@@ -1,11 +1,9 @@
 -- `division::numerator` meets its contract. Assumes nothing.
-use borrow.Author.Rules.{rules}
 use native.Mathlib.Omega.{arith}
 use Prim.Native.Nat.{◌-◌}
 use lib.ListN.{length}
-use mathlib.Core.List.{reverse}
 use mathlib.Core.Path.{sym, ◌∙◌}
-use Rattle.buffer.specs.Filling.{Filling, filling_first, filling_last, filling_next}
+use Rattle.buffer.specs.Filling.{filling_first, filling_last, filling_next}
 use Rattle.definition.specs.KinoshitaLi.{numerator}
 use Rattle.definition.specs.Lists.{coefficient}
 use Rattle.division.specs.Quotient.{reversed, reversed-table}

@@ -5,7 +5,8 @@ use mathlib.Core.Path.{◌≡◌, refl}
 use lib.ListN.{replicate}
 use Rattle.summed_product.specs.Zeros.{zeros-replicate}
 use Rattle.double_parity.specs.Halves.{even_half, folded_part, lower_half, odd_half, upper, upper_half}
-use Rattle.double_karatsuba.specs.Product.{Long, Multiplied, even-multiplying, fold-first, fold-second, folded-multiplying, half-inner, half_start, odd-multiplying, places-few, same-multiplied, same-multiplying, shorter, thirds, woven-product}
+use Rattle.double_karatsuba.specs.Product.{Long, Multiplied, even-multiplying, fold-first, fold-second, folded-multiplying, half-inner, half_start, odd-multiplying, places-few, same-multiplied, same-multiplying, shorter}
+use Rattle.double_karatsuba.proofs.Woven.{thirds, woven-product}
 use Rattle.double_karatsuba.proofs.+product.Goals as goal
 use Rattle.double_karatsuba.proofs.+product.Goals.{After-product-3, Else-is_short}
 

@@ -1,11 +1,8 @@
 -- `grids::load` meets its contract: the first l blocks are read. Assumes nothing.
 use borrow.Author.Rules.{rules}
 use native.Mathlib.Omega.{arith}
-use Prim.Native.Nat.{◌+◌, ◌*◌, ◌-◌, ◌<◌, ◌≤◌}
+use Prim.Native.Nat.{◌+◌, ◌*◌, ◌<◌, ◌≤◌}
 use lib.ListN.{length}
-use lib.Seq.{sets}
-use Rattle.definition.specs.KinoshitaLi.{plane}
-use Rattle.grids.specs.Grid.{grid_place}
 use Rattle.planes.specs.Rows.{plane-first, plane-fits, plane-next}
 use mathlib.Core.Path.{◌≡◌, refl}
 use Rattle.grids.proofs.load.Goals as goal
@@ -34,12 +31,11 @@ pub overflow_add-l : goal.overflow_add-l
 overflow_add-l c = record { fits = omega (arith, room (goal.at.overflow_add-l c).At-loop-l c.loop-l-test.true) }
 
 pub load_block-requires : goal.load_block-requires
-load_block-requires c =
-    (
-      c.requires.0,
-      λ k h. c.requires.1.inside _ k c.loop-l-test.true h,
-      omega (arith, room (goal.at.load_block-requires c).At-loop-l c.loop-l-test.true, c.loop-l.invariant.1),
-    )
+load_block-requires c = (
+  c.requires.0,
+  λ k h. c.requires.1.inside _ k c.loop-l-test.true h,
+  omega (arith, room (goal.at.load_block-requires c).At-loop-l c.loop-l-test.true, c.loop-l.invariant.1),
+)
 
 pub loop-l-smaller : goal.loop-l-smaller
 loop-l-smaller c = omega (arith, c.loop-l-test.true)

@@ -1,13 +1,10 @@
 -- `grids::load` meets its contract: the first l blocks are read. Assumes nothing.
-use borrow.Author.Rules.{rules}
-use native.Mathlib.Omega.{arith}
-use Prim.Native.Nat.{◌+◌, ◌*◌, ◌-◌, ◌<◌, ◌≤◌}
+use Prim.Native.Nat.{◌+◌, ◌-◌, ◌≤◌}
 use lib.ListN.{length}
 use lib.Seq.{sets}
 use Rattle.definition.specs.KinoshitaLi.{plane}
 use Rattle.grids.specs.Grid.{grid_place}
-use Rattle.planes.specs.Rows.{plane-first, plane-fits, plane-next}
-use mathlib.Core.Path.{◌≡◌, refl}
+use mathlib.Core.Path.{◌≡◌}
 use Rattle.grids.proofs.load.Given as goal
 
 abbrev pub invariant-loop-l : goal.invariant-loop-l

@@ -1,5 +1,4 @@
 -- `grids::product` meets its contract. Assumes nothing.
-use borrow.Author.Rules.{rules}
 use mathlib.Core.Bool.{false≢true}
 use Rattle.grids.specs.Parts.{load_needs, product-put, read_blocks, read_clean, read_few, read_values, room-target}
 use mathlib.Core.Path.{sym}

@@ -1,5 +1,4 @@
 -- `grids::square` meets its contract. Assumes nothing.
-use borrow.Author.Rules.{rules}
 use Rattle.grids.specs.Parts.{load_needs, read_blocks, read_clean, read_few, read_values, square-put, square-target}
 use mathlib.Core.Path.{refl}
 use Rattle.grids.proofs.square.Goals as goal

@@ -1,5 +1,4 @@
 -- `horner::horner` meets its contract. Assumes nothing.
-use borrow.Author.Rules.{rules}
 use Rattle.buffer.specs.Segments.{copy_down}
 use native.Mathlib.Omega.{arith}
 use mathlib.Core.Logic.{inl}

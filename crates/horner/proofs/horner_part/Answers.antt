@@ -1,14 +1,13 @@
 -- `horner::horner_part` meets its contract: before each turn the coefficients from place i on are taken. Assumes nothing.
-use borrow.Author.Rules.{rules}
 use native.Mathlib.Omega.{arith}
-use Prim.Native.Nat.{ℕ, suc, ◌-◌, ◌%◌}
-use mathlib.Core.List.{List}
+use Prim.Native.Nat.{suc, ◌-◌, ◌%◌}
 use mathlib.Core.Path.{◌≡◌}
 use lib.ListN.{length}
 use lib.Seq.{sets}
 use Rattle.definition.specs.Lists.{coefficient, tabulate}
 use Rattle.definition.specs.Substitution.{constant}
-use Rattle.horner.specs.Part.{PartOperands, Running, operands_next, operands-put, running-first, running_last, running-next, running-small, top_put}
+use Rattle.horner.proofs.Part.{running-next}
+use Rattle.horner.specs.Part.{PartOperands, Running, operands_next, operands-put, running-first, running_last, running-small, top_put}
 use Rattle.buffer.specs.Turns.{running-inside, running_place}
 use Rattle.horner.proofs.horner_part.Goals as goal
 use Rattle.horner.proofs.horner_part.Goals.{After-put_constant, After-running_place-from, In-loop-i}

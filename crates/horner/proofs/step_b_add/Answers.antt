@@ -1,5 +1,4 @@
 -- `horner::step_b_add` meets its contract. Assumes nothing.
-use borrow.Author.Rules.{rules}
 use lib.ListN.{set}
 use mathlib.Core.Path.{ap}
 use Rattle.definition.specs.Lists.{coefficient}

@@ -1,5 +1,4 @@
 -- `job_file::cut_short` meets its contract: what its tests ensure, one after the other. Assumes nothing.
-use borrow.Author.Rules.{rules}
 use native.Mathlib.Omega.{arith}
 use Prim.Native.Nat.{◌<◌}
 use lib.ListN.{length}

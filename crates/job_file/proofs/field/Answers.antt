@@ -1,5 +1,4 @@
 -- `job_file::field` meets its contract. Assumes nothing.
-use borrow.Author.Rules.{rules}
 use Rattle.definition.specs.Job as job
 use Rattle.job_file.proofs.field.Goals as goal
 

@@ -1,5 +1,4 @@
 -- `job_file::misplaced` meets its contract. Assumes nothing.
-use borrow.Author.Rules.{rules}
 use native.Mathlib.Omega.{arith}
 use Prim.Native.Nat.{◌<◌}
 use borrow.Author.Tests.{eq-eqb, le-ltb, lt-ltb, ne_eqb}

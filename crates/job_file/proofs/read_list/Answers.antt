@@ -1,10 +1,7 @@
 -- `job_file::read_list` meets its contract: after i turns the first i numbers are written. Assumes nothing.
-use borrow.Author.Rules.{rules}
 use native.Mathlib.Nat.{zero-add}
 use native.Mathlib.Omega.{arith}
-use Prim.Native.Nat.{◌-◌}
-use lib.ListN.{length}
-use Rattle.buffer.specs.Filling.{Filling, filling_first, filling_next}
+use Rattle.buffer.specs.Filling.{filling_first, filling_next}
 use Rattle.definition.specs.Job as job
 use Rattle.job_file.specs.File.{list_read, placed}
 use Rattle.job_file.proofs.read_list.Goals as goal

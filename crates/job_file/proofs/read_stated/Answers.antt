@@ -1,5 +1,4 @@
 -- `job_file::read_stated` meets its contract. Assumes nothing.
-use borrow.Author.Rules.{rules}
 use mathlib.Core.Path.{sym}
 use Rattle.job_file.specs.File.{front_read, stated-length}
 use Rattle.job_file.proofs.read_stated.Goals as goal

@@ -1,5 +1,5 @@
 -- `karatsuba::cut_product` and `karatsuba::third` meet their contracts. Assumes nothing.
-use Rattle.std.proofs.Common.{refl, ◌∙◌, arith}
+use Rattle.std.proofs.Common.{◌∙◌, arith}
 use Rattle.algebra.specs.Lists.{length-tabulate}
 use Rattle.buffer.specs.Written.{front-sets}
 use Rattle.definition.specs.Substitution.{cut_product}

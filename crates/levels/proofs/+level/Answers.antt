@@ -1,11 +1,11 @@
 -- `levels::level` meets its contract. The measure is the number of levels. Assumes nothing.
-use Prim.Native.Nat.{ℕ, suc, ◌+◌, ◌-◌, ◌<◌, ◌≤◌}
+use Prim.Native.Nat.{ℕ, suc, ◌+◌, ◌-◌, ◌≤◌}
 use native.Mathlib.Omega.{arith}
 use lib.ListN.{length}
 use mathlib.Core.Path.{◌≡◌}
-use borrow.Author.Rules.{rules}
 use Rattle.levels.specs.Graeffe.{Parts}
-use Rattle.levels.specs.Level.{Levelled, order-1, level_again, level_bounded, level_done, level_next, level_parts}
+use Rattle.levels.proofs.LevelDone.{level_done}
+use Rattle.levels.specs.Level.{Levelled, order-1, level_again, level_bounded, level_next, level_parts}
 use Rattle.levels.proofs.+level.Goals as goal
 use Rattle.levels.proofs.+level.Goals.{After-arrange-s, After-expand-up, Else-levels-eq0}
 
@@ -57,12 +57,11 @@ pub slice_bounds-level-start : goal.slice_bounds-level-start
 slice_bounds-level-start t c = omega (arith, room (goal.at.slice_bounds-level-start t c).After-arrange-s)
 
 pub level-below-requires : goal.level-below-requires
-level-below-requires t c =
-    (
-      omega arith,
-      level_next c.requires (deeper (goal.at.level-below-requires t c).Else-levels-eq0) c.arrange-s.ensures c.graeffe-down.new.w
-          c.graeffe-down.ensures.within.size,
-    )
+level-below-requires t c = (
+  omega arith,
+  level_next c.requires (deeper (goal.at.level-below-requires t c).Else-levels-eq0) c.arrange-s.ensures c.graeffe-down.new.w
+      c.graeffe-down.ensures.within.size,
+)
 
 pub expand-up-requires : goal.expand-up-requires
 expand-up-requires t c =

@@ -1,5 +1,4 @@
 -- `levels::arrange` meets its contract. Assumes nothing.
-use borrow.Author.Rules.{rules}
 use native.Mathlib.Omega.{arith}
 use Prim.Native.Nat.{◌+◌, ◌-◌, ◌*◌, ◌/◌, ◌<◌, ◌^◌}
 use Rattle.definition.specs.Lists.{ceil_div}

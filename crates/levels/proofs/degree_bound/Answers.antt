@@ -1,5 +1,4 @@
 -- `levels::degree_bound` meets its contract. Assumes nothing.
-use borrow.Author.Rules.{rules}
 use Rattle.definition.specs.Weight.{degree_bound}
 use Rattle.levels.proofs.degree_bound.Goals as goal
 

@@ -1,5 +1,4 @@
 -- `levels::last` meets its contract. Assumes nothing.
-use borrow.Author.Rules.{rules}
 use native.Mathlib.Omega.{arith}
 use native.Mathlib.Nat.{mul-one}
 use Rattle.levels.specs.Level.{last_level, last_room}

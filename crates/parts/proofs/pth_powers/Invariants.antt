@@ -1,14 +1,8 @@
 -- `parts::pth_powers` meets its contract: after i turns the first i places are written. Assumes nothing.
-use borrow.Author.Rules.{rules}
-use native.Mathlib.Omega.{arith}
 use Prim.Native.Nat.{◌-◌, ◌%◌}
-use mathlib.Core.Path.{ap, ◌∙◌}
-use Rattle.buffer.specs.Filling.{Filling, filling_first, filling_last, filling_next}
-use Rattle.buffer.specs.Written.{length_part}
+use Rattle.buffer.specs.Filling.{Filling}
 use Rattle.definition.specs.Lists.{coefficient}
 use Rattle.buffer.specs.Segments.{segment}
-use Rattle.route.specs.Filling.{filling_place}
-use Rattle.parts.specs.Steps.{pth_powers-reduced}
 use Rattle.parts.proofs.pth_powers.Given as goal
 
 abbrev pub invariant-loop-i : goal.invariant-loop-i

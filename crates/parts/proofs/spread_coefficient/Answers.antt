@@ -1,5 +1,4 @@
 -- `parts::spread_coefficient` meets its contract. Assumes nothing.
-use borrow.Author.Rules.{rules}
 use borrow.Author.Tests.{eq-eqb, ne_eqb}
 use mathlib.Core.Path.{◌∙◌}
 use Rattle.definition.specs.Bernstein.{spread}

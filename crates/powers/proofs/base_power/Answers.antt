@@ -1,8 +1,6 @@
 -- `powers::base_power` meets its contract: before each turn all digits but the last `left` are taken. Assumes nothing.
-use borrow.Author.Rules.{rules}
 use native.Mathlib.Omega.{arith}
-use Prim.Native.Nat.{ℕ, suc, ◌+◌, ◌-◌}
-use mathlib.Core.List.{List}
+use Prim.Native.Nat.{suc, ◌+◌, ◌-◌}
 use lib.Count.{ones, ones-le}
 use mathlib.Core.Path.{◌≡◌, refl}
 use Rattle.powers.specs.Binary.{

@@ -1,5 +1,4 @@
 -- `powers::further_digits` meets its contract: b is below 2^32, so its first digit is one of 32. Assumes nothing.
-use borrow.Author.Rules.{rules}
 use native.Mathlib.Omega.{arith}
 use lib.Count.{leading_top}
 use Rattle.powers.proofs.further_digits.Goals as goal

@@ -1,5 +1,4 @@
 -- `powers::further_ones` meets its contract: the first digit is 1. Assumes nothing.
-use borrow.Author.Rules.{rules}
 use native.Mathlib.Omega.{arith}
 use lib.Count.{ones-le}
 use Rattle.powers.specs.Digits.{ones_positive}

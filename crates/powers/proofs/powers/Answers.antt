@@ -1,5 +1,4 @@
 -- `powers::powers` meets its contract: the first power, and its squares. Assumes nothing.
-use borrow.Author.Rules.{rules}
 use Rattle.powers.specs.Digits.{power-products-few}
 use Rattle.powers.specs.Kept.{first-operands, place_bound, powers-made, powers-none}
 use native.Mathlib.Nat.{mul-le-mul}

@@ -1,8 +1,8 @@
 -- `powers::squares` meets its contract: after i powers, those are as the contract says. Assumes nothing.
 use borrow.Author.Rules.{rules}
-use Rattle.powers.specs.Kept.{Squares, place_bound, squares-first, squares-next, squares-operands}
+use Rattle.powers.specs.Kept.{place_bound, squares-first, squares-next, squares-operands}
 use native.Mathlib.Omega.{arith}
-use Prim.Native.Nat.{◌+◌, ◌-◌, ◌<◌, ◌≤◌}
+use Prim.Native.Nat.{◌+◌, ◌-◌}
 use mathlib.Core.Path.{◌≡◌}
 use Rattle.powers.proofs.squares.Goals as goal
 
@@ -24,14 +24,13 @@ plus-weight-requires c =
     omega (arith, place_bound c.requires.0 (c.loop-i.i - 1) (omega arith), c.step_square-places.ensures.places)
 
 pub loop-i-preserved : goal.loop-i-preserved
-loop-i-preserved c =
-    (
-      search rules,
-      search rules,
-      rw c.plus-weight.ensures
-          (squares-next c.requires.0 c.loop-i.invariant.0 c.loop-i-test.true c.loop-i.invariant.2
-          c.step_square-places.ensures),
-    )
+loop-i-preserved c = (
+  search rules,
+  search rules,
+  rw c.plus-weight.ensures
+      (squares-next c.requires.0 c.loop-i.invariant.0 c.loop-i-test.true c.loop-i.invariant.2
+      c.step_square-places.ensures),
+)
 
 pub shape_of-w : goal.shape_of-w
 shape_of-w c = c.loop-i.invariant.2.within.size

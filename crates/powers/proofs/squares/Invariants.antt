@@ -1,9 +1,6 @@
 -- `powers::squares` meets its contract: after i powers, those are as the contract says. Assumes nothing.
-use borrow.Author.Rules.{rules}
-use Rattle.powers.specs.Kept.{Squares, place_bound, squares-first, squares-next, squares-operands}
-use native.Mathlib.Omega.{arith}
-use Prim.Native.Nat.{◌+◌, ◌-◌, ◌<◌, ◌≤◌}
-use mathlib.Core.Path.{◌≡◌}
+use Rattle.powers.specs.Kept.{Squares}
+use Prim.Native.Nat.{◌-◌, ◌<◌, ◌≤◌}
 use Rattle.powers.proofs.squares.Given as goal
 
 abbrev pub invariant-loop-i : goal.invariant-loop-i

@@ -1,5 +1,4 @@
 -- `powers::take_digit` meets its contract: a squaring, and a product with g where the digit is 1. Assumes nothing.
-use borrow.Author.Rules.{rules}
 use native.Mathlib.Omega.{arith}
 use mathlib.Core.Path.{◌≡◌}
 use Rattle.product.specs.Single.{multiplied-within}

@@ -1,5 +1,4 @@
 -- `product::multiply` meets its contract: the product is added to zeros. Assumes nothing.
-use borrow.Author.Rules.{rules}
 use mathlib.Core.Path.{◌∙◌}
 use Rattle.product.specs.Single.{added-zeros, operands-length}
 use Rattle.product.proofs.multiply.Goals as goal

@@ -1,5 +1,4 @@
 -- `ranged::compose_block` meets its contract: the part that is handed to Horner is the block. Assumes nothing.
-use borrow.Author.Rules.{rules}
 use native.Mathlib.Nat.{mul-le-mul_left}
 use Rattle.ranged.specs.Joins.{next_small, part-operands}
 use Rattle.ranged.specs.Spans.{block-part}

@@ -1,5 +1,4 @@
 -- `ranged::join` meets its contract: the product is made, then added. Assumes nothing.
-use borrow.Author.Rules.{rules}
 use Rattle.ranged.specs.Neighbours.{join_made}
 use Rattle.ranged.proofs.join.Goals as goal
 

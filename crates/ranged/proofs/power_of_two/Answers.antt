@@ -1,5 +1,4 @@
 -- `ranged::power_of_two` meets its contract: the shift loses no bit. Assumes nothing.
-use borrow.Author.Rules.{rules}
 use native.Mathlib.Nat.{one-mul}
 use lib.Pow.{shl_exact}
 use native.Mathlib.Omega.{arith}

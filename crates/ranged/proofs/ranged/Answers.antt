@@ -1,5 +1,4 @@
 -- `ranged::ranged` meets its contract: the powers, then the span of all blocks. Assumes nothing.
-use borrow.Author.Rules.{rules}
 use Rattle.buffer.specs.Segments.{copy_down}
 use Rattle.route.specs.Contract.{put-composed, put-within, route_moved}
 use Rattle.ranged.specs.Whole.{whole-levels, whole-places, whole-powers, whole-small, whole-span, whole-value, whole-weight, whole-within}

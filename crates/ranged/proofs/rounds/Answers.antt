@@ -1,5 +1,4 @@
 -- `ranged::rounds` meets its contract. Assumes nothing.
-use borrow.Author.Rules.{rules}
 use mathlib.Core.Path.{◌∙◌}
 use Rattle.ranged.proofs.rounds.Goals as goal
 

@@ -1,6 +1,6 @@
 -- `remainder::by_division` meets its contract: after k turns the first k places are written. Assumes nothing.
-use Rattle.std.proofs.Common.{◌-◌, ◌%◌, ◌^◌, ◌<◌, refl, ◌∙◌, mod-lt, zero-add, arith, rules}
-use Rattle.buffer.specs.Filling.{Filling, filling_first, filling_last, filling_next}
+use Rattle.std.proofs.Common.{◌%◌, ◌^◌, ◌<◌, refl, ◌∙◌, mod-lt, zero-add, arith, rules}
+use Rattle.buffer.specs.Filling.{filling_first, filling_last, filling_next}
 use Rattle.residue.specs.Residue.{product-below}
 use Rattle.definition.specs.Lists.{coefficient}
 use Rattle.remainder.specs.Division.{second-power}

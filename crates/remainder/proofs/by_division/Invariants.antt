@@ -1,10 +1,7 @@
 -- `remainder::by_division` meets its contract: after k turns the first k places are written. Assumes nothing.
-use Rattle.std.proofs.Common.{◌-◌, ◌%◌, ◌^◌, ◌<◌, refl, ◌∙◌, mod-lt, zero-add, arith, rules}
-use Rattle.buffer.specs.Filling.{Filling, filling_first, filling_last, filling_next}
-use Rattle.residue.specs.Residue.{product-below}
-use Rattle.definition.specs.Lists.{coefficient}
-use Rattle.remainder.specs.Division.{second-power}
-use Rattle.rows.specs.Sums.{remainder_at, remainder_list}
+use Rattle.std.proofs.Common.{◌-◌}
+use Rattle.buffer.specs.Filling.{Filling}
+use Rattle.rows.specs.Sums.{remainder_at}
 use Rattle.remainder.proofs.by_division.Given as goal
 
 abbrev pub invariant-loop-k : goal.invariant-loop-k

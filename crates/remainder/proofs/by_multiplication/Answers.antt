@@ -1,5 +1,5 @@
 -- `remainder::by_multiplication` meets its contract. Assumes nothing.
-use Rattle.std.proofs.Common.{◌∙◌, le_refl, add-zero, arith, rules}
+use Rattle.std.proofs.Common.{◌∙◌, le_refl, add-zero, arith}
 use native.Mathlib.Nat.{sub_self}
 use Rattle.residue.specs.Residue.{negative-sum}
 use Rattle.remainder.proofs.by_multiplication.Goals as goal

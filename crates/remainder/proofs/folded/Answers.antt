@@ -1,5 +1,5 @@
 -- `remainder::folded` meets its contract: every step fits 64 bits. Assumes nothing.
-use Rattle.std.proofs.Common.{ℕ, ◌-◌, ◌*◌, ◌/◌, ◌%◌, ◌^◌, ◌<◌, ◌≤◌, mod-lt, arith, rules}
+use Rattle.std.proofs.Common.{ℕ, ◌-◌, ◌*◌, ◌/◌, ◌%◌, ◌^◌, ◌<◌, ◌≤◌, mod-lt, arith}
 use Rattle.remainder.specs.Division.{first-term, second-term, folded_remainder}
 use Rattle.remainder.proofs.folded.Goals as goal
 use Rattle.remainder.proofs.folded.Goals.{Start}

@@ -1,5 +1,5 @@
 -- `remainder::remainders` meets its contract. Assumes nothing.
-use Rattle.std.proofs.Common.{arith, rules}
+use Rattle.std.proofs.Common.{arith}
 use Rattle.remainder.specs.Inverse.{between}
 use Rattle.remainder.proofs.remainders.Goals as goal
 

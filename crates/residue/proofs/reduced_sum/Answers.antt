@@ -1,5 +1,5 @@
 -- `residue::reduced_sum` meets its contract: the remainders change nothing. Assumes nothing.
-use Rattle.std.proofs.Common.{◌∙◌, mod-lt, rules}
+use Rattle.std.proofs.Common.{◌∙◌, mod-lt}
 use native.Mathlib.Nat.{add-mod-mod, mod-add-mod}
 use Rattle.residue.proofs.reduced_sum.Goals as goal
 

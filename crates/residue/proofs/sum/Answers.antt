@@ -1,5 +1,5 @@
 -- `residue::sum` meets its contract. Assumes nothing.
-use Rattle.std.proofs.Common.{◌∙◌, rules}
+use Rattle.std.proofs.Common.{◌∙◌}
 use Rattle.residue.specs.Residue.{sum-difference}
 use Rattle.residue.proofs.sum.Goals as goal
 

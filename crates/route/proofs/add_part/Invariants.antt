@@ -1,12 +1,8 @@
 -- `route::add_part` meets its contract: after k turns the first k places are written. Assumes nothing.
-use borrow.Author.Rules.{rules}
-use native.Mathlib.Omega.{arith}
-use Prim.Native.Nat.{◌+◌, ◌-◌, ◌%◌}
-use mathlib.Core.Path.{ap₂, ◌∙◌}
-use Rattle.buffer.specs.Filling.{Filling, filling_after, filling_first, filling_last, filling_next}
+use Prim.Native.Nat.{◌-◌}
+use Rattle.buffer.specs.Filling.{Filling}
 use Rattle.buffer.specs.Segments.{segment}
-use Rattle.definition.specs.Lists.{coefficient}
-use Rattle.definition.specs.Substitution.{cut_sum, cut_sum_at}
+use Rattle.definition.specs.Substitution.{cut_sum_at}
 use Rattle.route.proofs.add_part.Given as goal
 
 abbrev pub invariant-loop-k : goal.invariant-loop-k

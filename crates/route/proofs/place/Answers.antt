@@ -1,5 +1,4 @@
 -- `route::place` meets its contract. Assumes nothing.
-use borrow.Author.Rules.{rules}
 use native.Mathlib.Omega.{arith}
 use mathlib.Core.Path.{refl, sym}
 use Rattle.algebra.specs.Lists.{coefficient_beyond}

@@ -1,8 +1,6 @@
 -- `route::put` meets its contract: after k turns the first k places are written. Assumes nothing.
-use borrow.Author.Rules.{rules}
-use native.Mathlib.Omega.{arith}
 use Prim.Native.Nat.{◌-◌}
-use Rattle.buffer.specs.Filling.{Filling, filling_first, filling_last, filling_next}
+use Rattle.buffer.specs.Filling.{Filling}
 use Rattle.definition.specs.Lists.{coefficient}
 use Rattle.route.proofs.put.Given as goal
 

@@ -1,5 +1,4 @@
 -- `route::put_constant` meets its contract: c is written over the first of n zeros. Assumes nothing.
-use borrow.Author.Rules.{rules}
 use Rattle.route.specs.Table.{constant-written}
 use Rattle.route.proofs.put_constant.Goals as goal
 

@@ -1,5 +1,4 @@
 -- `route::work_places` meets its contract. Assumes nothing.
-use borrow.Author.Rules.{rules}
 use mathlib.Core.Path.{refl}
 use Rattle.route.proofs.work_places.Goals as goal
 

@@ -1,13 +1,9 @@
 -- `schoolbook::cut_product` meets its contract. Assumes nothing.
 use borrow.Author.Rules.{rules}
-use native.Mathlib.Omega.{arith}
-use Prim.Native.Nat.{ℕ, ◌+◌, ◌*◌, ◌-◌, ◌<◌, ◌≤◌, ◌%◌}
-use lib.ListN.{length, get_or, take, drop, set}
 use lib.Seq.{sets}
 use Rattle.schoolbook.specs.ByRows.{cut-pair, cut-remainders, cut_small}
 use Rattle.summed_product.specs.Zeros.{zeros-replicate}
-use mathlib.Core.Path.{◌≡◌, refl, sym, ap, ◌∙◌}
-use Rattle.schoolbook.proofs.cut_product.Lts as lts
+use mathlib.Core.Path.{ap, ◌∙◌}
 use Rattle.schoolbook.proofs.cut_product.Goals as goal
 
 -- src/lib.rt:32:23
@@ -44,13 +40,12 @@ add_product-requires c =
     (cut-pair c.requires.0 c.requires.1 (zeros-replicate 144) (zeros-replicate 144) (zeros-replicate 128) (zeros-replicate 128) _ _)
 
 pub remainders-requires : goal.remainders-requires
-remainders-requires c =
-    (
-      c.requires.0,
-      cut_small c.requires.0 c.requires.1 (zeros-replicate 144) (zeros-replicate 144) (zeros-replicate 128) (zeros-replicate 128) _ _
-          (rw (c.widen.ensures, c.widen-2.ensures) at c.add_product.ensures) (search rules) (search rules),
-      c.requires.4,
-    )
+remainders-requires c = (
+  c.requires.0,
+  cut_small c.requires.0 c.requires.1 (zeros-replicate 144) (zeros-replicate 144) (zeros-replicate 128) (zeros-replicate 128) _ _
+      (rw (c.widen.ensures, c.widen-2.ensures) at c.add_product.ensures) (search rules) (search rules),
+  c.requires.4,
+)
 
 pub returns : goal.returns
 returns c =

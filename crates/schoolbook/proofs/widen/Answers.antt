@@ -1,9 +1,7 @@
 -- `schoolbook::widen` meets its contract: after i turns the first i places are written. Assumes nothing.
-use borrow.Author.Rules.{rules}
 use native.Mathlib.Omega.{arith}
-use Prim.Native.Nat.{◌-◌}
 use mathlib.Core.Path.{◌∙◌}
-use Rattle.buffer.specs.Filling.{Filling, filling_first, filling_last, filling_next}
+use Rattle.buffer.specs.Filling.{filling_first, filling_last, filling_next}
 use Rattle.definition.specs.Lists.{coefficient}
 use Rattle.schoolbook.specs.ByRows.{residue_at, residue_list}
 use Rattle.schoolbook.proofs.widen.Goals as goal

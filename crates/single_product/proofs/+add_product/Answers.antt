@@ -1,10 +1,9 @@
 -- `single_product::add_product` meets its contract: each way of few places is the contract of its callee, and above 4096 places the front is written
 -- and then the rest. The measure is the number of places. Assumes nothing.
-use Prim.Native.Nat.{ℕ, ◌+◌, ◌*◌, ◌/◌, ◌<◌}
+use Prim.Native.Nat.{◌+◌, ◌*◌, ◌/◌}
 use native.Mathlib.Omega.{arith}
 use native.Mathlib.Nat.{add-zero}
 use mathlib.Core.Path.{◌∙◌}
-use borrow.Author.Rules.{rules}
 use Rattle.single_product.specs.Long.{added-parts, operands_fewer}
 use Rattle.coefficients.specs.Operands.{operands-length}
 use Rattle.single_product.proofs.+add_product.Goals as goal

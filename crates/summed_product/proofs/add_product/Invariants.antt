@@ -1,11 +1,8 @@
 -- `summed_product::add_product` meets its contract: the rows before i are added. Assumes nothing.
-use borrow.Author.Rules.{rules}
-use native.Mathlib.Nat.{le_refl}
-use native.Mathlib.Omega.{arith}
 use Prim.Native.Nat.{◌+◌, ◌-◌, ◌<◌, ◌≤◌}
 use lib.ListN.{length}
-use Rattle.summed_product.specs.Terms.{Added, added_eight, added_none, added-wider, pair-length, rows-first, rows_last, rows_next, rows_before}
-use mathlib.Core.Path.{◌≡◌, refl}
+use Rattle.summed_product.specs.Terms.{Added, rows_before}
+use mathlib.Core.Path.{◌≡◌}
 use Rattle.summed_product.proofs.add_product.Given as goal
 
 abbrev pub invariant-loop-i : goal.invariant-loop-i

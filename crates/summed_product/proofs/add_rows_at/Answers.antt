@@ -1,5 +1,4 @@
 -- `summed_product::add_rows_at` meets its contract. Assumes nothing.
-use borrow.Author.Rules.{rules}
 use Rattle.summed_product.specs.Terms.{added_none, pass_factors, pass_rows, zero-rows}
 use mathlib.Core.Path.{refl}
 use Rattle.summed_product.proofs.add_rows_at.Goals as goal

@@ -1,7 +1,6 @@
 -- `summed_product::eight_zeros` meets its contract: the first k places are zero. Assumes nothing.
-use borrow.Author.Rules.{rules}
 use native.Mathlib.Omega.{arith}
-use Prim.Native.Nat.{ℕ, ◌+◌, ◌-◌, ◌<◌, ◌≤◌}
+use Prim.Native.Nat.{ℕ, ◌+◌, ◌<◌}
 use native.Mathlib.Decide.{dec_lt}
 use mathlib.Core.List.{List}
 use mathlib.Core.Bool.{false≢true}
@@ -25,11 +24,10 @@ pub returns-then-x-i-ne0 : goal.returns-then-x-i-ne0
 returns-then-x-i-ne0 c = λ e. absurd (false≢true e)
 
 pub loop-k-preserved : goal.loop-k-preserved
-loop-k-preserved c =
-    (
-      omega (arith, c.loop-k-test.true),
-      λ j b. zero-next c.args.x.now c.args.i c.loop-k.k c.loop-k.invariant.1 c.if-x-i-ne0.false j b,
-    )
+loop-k-preserved c = (
+  omega (arith, c.loop-k-test.true),
+  λ j b. zero-next c.args.x.now c.args.i c.loop-k.k c.loop-k.invariant.1 c.if-x-i-ne0.false j b,
+)
 
 pub returns : goal.returns
 returns c = λ e k b. c.loop-k.invariant.1 k (omega (arith, c.loop-k-test.false))

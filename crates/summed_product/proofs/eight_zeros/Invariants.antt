@@ -1,10 +1,5 @@
 -- `summed_product::eight_zeros` meets its contract: the first k places are zero. Assumes nothing.
-use borrow.Author.Rules.{rules}
-use native.Mathlib.Omega.{arith}
 use Prim.Native.Nat.{ℕ, ◌+◌, ◌-◌, ◌<◌, ◌≤◌}
-use native.Mathlib.Decide.{dec_lt}
-use mathlib.Core.List.{List}
-use mathlib.Core.Bool.{false≢true}
 use lib.ListN.{get_or}
 use mathlib.Core.Path.{◌≡◌}
 use Rattle.summed_product.proofs.eight_zeros.Given as goal
