@@ -51,7 +51,7 @@ pub fn undo(
     running: &mut [u32],
     work: &mut [u32],
 ) -> Undone
-    ensures by_index { (running1 : List ℕ) × (work1 : List ℕ) × (work2 : List ℕ)
+    ensures calls { (running1 : List ℕ) × (work1 : List ℕ) × (work2 : List ℕ)
         × Reverse chain.modulus chain.order list.now reverse.old reverse.new
         work.old work1 result.reversed.number result.reversed.weight
         × Cycle route1 b1 (recorded chain) list.now running.old running1
