@@ -17,5 +17,6 @@ write_rendered-count-requires c =
 pub returns : goal.returns
 returns c =
     let args = c.args in
+    let passed = c.if-refused-ne0.false in
     render_accepted args.number args.n args.weight args.list.now args.text.now c.rendered_places-places.ensures
-    c.render-refused.ensures c.if-refused-ne0.false c.write_rendered-count.ensures
+    c.render-refused.ensures passed c.write_rendered-count.ensures
