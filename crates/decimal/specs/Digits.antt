@@ -3,10 +3,13 @@
 --   decimal_digit    a number below 10 is one digit
 --   decimal-next     the digits of v / 10, and one more
 --   decimal-length   a number below 10 ^ k has at most k digits, where k is not 0
+--   decimal-printed  they are what the library prints of it
 --   word-length long_length   the most digits of a number of 32 and of 64 bits
 -- Assumes nothing.
 use Rattle.std.specs.Prelude.{ℕ, zero, suc, ◌+◌, ◌/◌, ◌%◌, ◌^◌, ◌<◌, ◌≤◌, ltb, length, Bool, true, false, [], ◌∷◌, ◌++◌, ◌≡◌, refl}
 use Rattle.std.proofs.Common.{div-lt_iff_lt-mul, pow-suc, arith, le-ltb, lt-ltb, ltb-false, ltb-true, length-append, ◌∙◌}
+use Rattle.std.proofs.lemmas.Fmt.{decimal_from_appends, length-decimal-le_succ}
+use Rattle.std.specs.Fmt.{decimal as printed}
 use Rattle.definition.specs.Text.{decimal, decimal_within}
 
 -- one step of the definition: v below 10, and v from 10 on
@@ -53,3 +56,9 @@ word-length v h = decimal-length 10 v (omega arith) (omega arith)
 
 pub long_length : (v : ℕ) → v < 2 ^ 64 → length (decimal v) ≤ 20
 long_length v h = decimal-length 20 v (omega arith) (omega arith)
+
+pub decimal-printed : (v : ℕ) → v < 2 ^ 64 → decimal v ≡ printed v
+unfolding decimal
+decimal-printed v h =
+    decimal_from_appends decimal_within (record { one = within_digit; more = within-next }) (suc v) v h
+    (omega (arith, length-decimal-le_succ v h))

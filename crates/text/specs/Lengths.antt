@@ -1,5 +1,6 @@
 -- The coefficients of a text, and how long a text is.
 --
+--   spaced-none        no coefficient
 --   spaced-first       the first coefficient
 --   spaced-next        one coefficient more
 --   spaced-part        a first part of the coefficients is not longer
@@ -12,6 +13,11 @@ use Rattle.std.specs.Prelude.{ℕ, zero, suc, ◌+◌, ◌*◌, ◌-◌, ◌^◌
 use Rattle.std.proofs.Common.{add-one, arith, length-append, length-take-le, take-suc, append_assoc, sym}
 use Rattle.definition.specs.Text.{accepted, decimal, no_lead, ok_lead, refused, rendered, space, spaced}
 use Rattle.decimal.specs.Digits.{decimal-length, long_length, word-length}
+
+pub spaced-none : (l : List ℕ) → length l ≡ 0 → spaced l ≡ []
+unfolding spaced
+spaced-none [] h = refl
+spaced-none (c ∷ l) h = absurd (omega arith)
 
 pub spaced-first : (l : List ℕ) → 0 < length l → spaced (take 1 l) ≡ decimal (get_or l 0 0)
 unfolding spaced

@@ -1,43 +1,51 @@
--- `text::write_spaced` meets its contract: after i coefficients these are written. Assumes nothing.
-use borrow.Author.Rules.{rules}
-use native.Mathlib.Omega.{arith}
-use Prim.Native.Nat.{◌+◌}
-use lib.ListN.{length, get_or, take}
-use lib.Seq.{take_all}
-use mathlib.Core.List.{◌∷◌}
-use mathlib.Core.Path.{refl, ap}
+-- `text::write_spaced` meets its contract: after a turn for each of i coefficients these are printed, and the first before them. Assumes nothing.
+use Rattle.std.proofs.Common.{add-one, add-zero, arith, length, length-append, get_or, take, take_all, ap, refl, sym, ◌+◌, ◌≡◌, ◌∷◌, ◌++◌}
 use Rattle.definition.specs.Text.{decimal, space, spaced}
-use Rattle.text.specs.Lengths.{spaced-first, spaced-next, spaced-part}
-use Rattle.decimal.specs.Writing.{Written, room, written-append}
+use Rattle.decimal.specs.Writing.{printed-append}
+use Rattle.text.specs.Lengths.{spaced-first, spaced-next, spaced-none, spaced-part}
 use Rattle.text.proofs.write_spaced.Goals as goal
-use Rattle.text.proofs.write_spaced.Goals.{At-loop-i}
+use Rattle.text.proofs.write_spaced.Goals.{After-from, After-from-in-loop-coefficient}
 
--- what is written where the loop's test is reached
-so_far : (c : At-loop-i)
-    → Written (spaced (take c.loop-i.i c.args.list.now)) c.args.at c.args.text.now c.loop-i.text c.loop-i.next
-so_far c = c.loop-i.invariant.3 _ (rw (spaced-first _ c.requires.0) c.write_decimal-next.ensures)
+-- the first coefficient
+first : (c : After-from) → spaced (take 1 c.args.list.now) ≡ decimal c.from.result
+first c =
+    let list = c.in-Some.ensures.cases.0 in
+    rw (list, c.from.ensures) (spaced-first (c.in-Some.first.now ∷ c.in-Some.rest.now) (omega arith))
+
+-- one more
+next : (c : After-from-in-loop-coefficient) → spaced (take (c.loop-coefficient.coefficient-index + 1 + 1) c.args.list.now)
+    ≡ spaced (take (c.loop-coefficient.coefficient-index + 1) c.args.list.now) ++ space ∷ decimal c.from-in-loop-coefficient.result
+next c =
+    let i = c.loop-coefficient.coefficient-index in
+    let list = c.in-Some.ensures.cases.0 in
+    let here : get_or c.args.list.now (i + 1) 0 ≡ c.from-in-loop-coefficient.result =
+    rw (list, add-one) (sym c.from-in-loop-coefficient.ensures) in
+    rw (← here) (spaced-next c.args.list.now (i + 1) (omega arith) (omega (arith, ap length list)))
+
+pub returns-in_default : goal.returns-in_default
+returns-in_default c =
+    rw (spaced-none c.args.list.now c.in_default.ensures.cases) (record { ends = sym (add-zero _); holds = λ room. refl })
 
 pub write_decimal-next-requires : goal.write_decimal-next-requires
 write_decimal-next-requires c =
-    let list = c.args.list.now in
-    omega (arith, c.requires.1, spaced-part 1 list, ap length (spaced-first list c.requires.0))
+    omega (arith, ap length (first (goal.at.write_decimal-next-requires c).After-from), spaced-part 1 c.args.list.now)
 
-pub loop-i-init : goal.loop-i-init
-loop-i-init c = (omega arith, omega arith, refl, λ before first. first)
+pub loop-coefficient-init : goal.loop-coefficient-init
+loop-coefficient-init c = rw (first (goal.at.loop-coefficient-init c).After-from) c.write_decimal-next.ensures
 
-pub write_next-next-requires : goal.write_next-next-requires
-write_next-next-requires c =
-    let args = c.args in
-    let next = spaced-next args.list.now c.loop-i.i (omega arith) (omega arith) in
-    let part = spaced-part (c.loop-i.i + 1) args.list.now in
-    room _ (space ∷ decimal (get_or args.list.now c.loop-i.i 0)) (so_far (goal.at.write_next-next-requires c).At-loop-i) (omega (arith, c.requires.1, part, ap length next))
+pub write_after-next-requires : goal.write_after-next-requires
+write_after-next-requires c =
+    let i = c.loop-coefficient.coefficient-index in
+    let more = simp length-append at (ap length (next (goal.at.write_after-next-requires c).After-from-in-loop-coefficient)) in
+    omega (arith, more, spaced-part (i + 1 + 1) c.args.list.now, c.loop-coefficient.invariant.ends)
 
-pub loop-i-preserved : goal.loop-i-preserved
-loop-i-preserved c =
-    let next = spaced-next c.args.list.now c.loop-i.i (omega arith) (omega arith) in
-    (omega arith, omega arith, search rules, λ before first. rw next (written-append _ _ (c.loop-i.invariant.3 before first) c.write_next-next.ensures))
+pub loop-coefficient-preserved : goal.loop-coefficient-preserved
+unfolding space
+loop-coefficient-preserved c =
+    rw (next (goal.at.loop-coefficient-preserved c).After-from-in-loop-coefficient)
+    (printed-append _ _ c.loop-coefficient.invariant c.write_after-next.ensures)
 
 pub returns : goal.returns
 returns c =
-    let list = c.args.list.now in
-    rw (take_all c.loop-i.i list (omega arith)) at (so_far (goal.at.returns c).At-loop-i)
+    let list = ap length c.in-Some.ensures.cases.0 in
+    rw (take_all (c.loop-coefficient.coefficient-index + 1) c.args.list.now (omega arith)) at c.loop-coefficient.invariant
