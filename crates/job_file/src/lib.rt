@@ -15,22 +15,12 @@ pub const MOST_PLACES: usize = 64;
 
 const MOST_STATED: u32 = MOST_PLACES as u32;
 
-// A byte as a 32-bit number.
-fn wide(byte: u8) -> u32
-    ensures { (result ≡ byte) × (result < 256) }
-{
-    byte as u32
-}
-
 // The little-endian number in the four bytes from place `at` on.
 fn word(file: &[u8], at: usize) -> u32
     requires { at + 4 ≤ length file.now }
     ensures { result ≡ word file.now at }
 {
-    wide(file[at])
-        + 256 * wide(file[at + 1])
-        + 65536 * wide(file[at + 2])
-        + 16777216 * wide(file[at + 3])
+    u32::from_le_bytes([file[at], file[at + 1], file[at + 2], file[at + 3]])
 }
 
 // Number k of the header.
@@ -92,10 +82,8 @@ fn read_list(file: &[u8], at: usize, list: &mut [u32])
     requires { misplaced file.now (length list.old) at ≡ false }
     ensures { list.new ≡ list_at file.now (length list.old) at }
 {
-    let mut i = 0;
-    while i < list.len() {
-        list[i] = word(file, at + 4 * i);
-        i += 1;
+    for (i, number) in list.iter_mut().enumerate() {
+        *number = word(file, at + 4 * i);
     }
 }
 

@@ -7,6 +7,3 @@ use Rattle.job_file.proofs.read_list.Given as goal
 
 abbrev pub invariant-loop-i : goal.invariant-loop-i
 invariant-loop-i l = Filling (job.word_of l.file l.at) 0 (length l.initial.list) l.initial.list l.list l.i
-
-abbrev pub decreases-loop-i : goal.decreases-loop-i
-decreases-loop-i l = length l.initial.list - l.i
