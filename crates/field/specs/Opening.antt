@@ -8,40 +8,38 @@
 --   good_modulus            a modulus that is not refused is a prime up to the largest modulus
 --   prime_taken             and every such prime is not refused
 -- Assumes nothing.
-use Rattle.std.specs.Prelude.{ℕ, ◌≤◌, ltb, Bool, true, false, cond, not, ◌||◌, [], ◌∷◌, ◌≡◌, refl}
+use Rattle.std.specs.Prelude.{ℕ, Option, Some, None, ◌≤◌, ltb, Bool, true, false, cond, not, ◌||◌, [], ◌∷◌, ◌≡◌, refl}
 use Rattle.std.proofs.Common.{le-ltb, ltb-false, true≢false, arith}
 use Rattle.algebra.specs.Prime.{is_prime_true, prime_of_test}
 use Rattle.definition.specs.Answer.{answered}
 use Rattle.definition.specs.Prime.{Prime, is_prime, largest_modulus}
 use Rattle.definition.specs.Refusal.{bad_modulus, first, test}
-use Rattle.field.specs.declared.Field as Field
-use Rattle.field.specs.declared.Opened.{Opened}
-use Rattle.field.specs.declared.Opened.TheVariants.{Field, Refused}
+use Rattle.field.specs.declared.Field.{Field}
 
-unfoldable pub number_of : Opened → ℕ
-number_of (Field f) = 0
-number_of Refused = 2
+unfoldable pub number_of : Option Field → ℕ
+number_of (Some f) = 0
+number_of None = 2
 
-unfoldable pub modulus_of : Opened → ℕ
-modulus_of (Field f) = f.modulus
-modulus_of Refused = 0
+unfoldable pub modulus_of : Option Field → ℕ
+modulus_of (Some f) = f.modulus
+modulus_of None = 0
 
 unfoldable pub field_refusal : ℕ → ℕ
 field_refusal p = first (test 2 (bad_modulus p) ∷ [])
 
-pub record Opening (p : ℕ) (answer : Opened) : Type 0 where
+pub record Opening (p : ℕ) (answer : Option Field) : Type 0 where
   pub number : number_of answer ≡ field_refusal p
   pub modulus : modulus_of answer ≡ answered (field_refusal p) p
 
-pub opening-refused : (p : ℕ) → bad_modulus p ≡ true → Opening p Refused
+pub opening-refused : (p : ℕ) → bad_modulus p ≡ true → Opening p None
 unfolding number_of modulus_of field_refusal first test answered
 opening-refused p bad = record { number = rw bad; modulus = rw bad }
 
-pub opening_taken : (p : ℕ) → bad_modulus p ≡ false → Opening p (Field (record { modulus = p }))
+pub opening_taken : (f : Field) → bad_modulus f.modulus ≡ false → Opening f.modulus (Some f)
 unfolding number_of modulus_of field_refusal first test answered
-opening_taken p good = record { number = rw good; modulus = rw good }
+opening_taken f good = record { number = rw good; modulus = rw good }
 
-pub refused-modulus : (p : ℕ) → Opening p Refused → bad_modulus p ≡ true
+pub refused-modulus : (p : ℕ) → Opening p None → bad_modulus p ≡ true
 unfolding number_of field_refusal first test
 refused-modulus p o = go (bad_modulus p) o.number
   where
@@ -49,7 +47,7 @@ refused-modulus p o = go (bad_modulus p) o.number
     go true e = refl
     go false e = absurd (omega arith)
 
-pub taken_modulus : (p : ℕ) (f : Field.Field) → Opening p (Field f) → (bad_modulus p ≡ false) × (f.modulus ≡ p)
+pub taken_modulus : (p : ℕ) (f : Field) → Opening p (Some f) → (bad_modulus p ≡ false) × (f.modulus ≡ p)
 unfolding number_of modulus_of field_refusal first test answered
 taken_modulus p f o = go (bad_modulus p) o.number o.modulus
   where

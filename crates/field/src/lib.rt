@@ -4,19 +4,12 @@
 ghost use Rattle.std.specs.Prelude.{◌≡◌, ◌+◌, ◌-◌, ◌*◌, ◌^◌, ◌%◌, ◌<◌};
 ghost use Rattle.definition.specs.Prime.{is_prime};
 ghost use Rattle.definition.specs.KinoshitaLi.{negative};
-ghost use Rattle.field.specs.Opening.{Opening};
 
 // The field of the residues modulo `modulus`.
 #[derive(Clone, Copy)]
 pub struct Field {
     pub modulus: u32,
-}
-
-// A field, or none where the modulus is refused.
-#[derive(Clone, Copy)]
-pub enum Opened {
-    Field(Field),
-    Refused,
+    pub ghost positive: { 0 < modulus },
 }
 
 // The whole product, which 64 bits hold.
@@ -58,26 +51,24 @@ pub fn is_prime(p: u32) -> bool
 }
 
 impl Field {
+    ghost use Rattle.field.specs.Opening.{Opening};
+
     // The largest modulus.
     pub const LARGEST: u32 = 4294967295;
 
     // The field of modulus `p`, for a prime up to the largest modulus.
-    pub fn new(p: u32) -> Opened
+    pub fn new(p: u32) -> Option<Field>
         ensures { Opening p result }
     {
-        if p > Field::LARGEST {
-            return Opened::Refused;
-        }
-        if is_prime(p) {
-            Opened::Field(Field { modulus: p })
+        if p <= Field::LARGEST && is_prime(p) {
+            Some(Field { modulus: p })
         } else {
-            Opened::Refused
+            None
         }
     }
 
     // x modulo p.
     pub fn reduced(self, x: u64) -> u32
-        requires { 0 < self.modulus }
         ensures { result ≡ x % self.modulus }
     {
         (x % self.modulus as u64) as u32
@@ -85,15 +76,14 @@ impl Field {
 
     // a + b modulo p.
     pub fn sum(self, a: u32, b: u32) -> u32
-        requires { 0 < self.modulus }
         ensures { result ≡ (a + b) % self.modulus }
     {
         self.reduced(a as u64 + b as u64)
     }
 
     // -a modulo p.
+    #[tactic(auto, unfolding(definition::specs::KinoshitaLi::negative))]
     pub fn negative(self, a: u32) -> u32
-        requires { 0 < self.modulus }
         ensures { result ≡ negative self.modulus a }
     {
         (self.modulus - a % self.modulus) % self.modulus
@@ -101,7 +91,6 @@ impl Field {
 
     // a - b modulo p.
     pub fn difference(self, a: u32, b: u32) -> u32
-        requires { 0 < self.modulus }
         ensures { result ≡ (a + negative self.modulus b) % self.modulus }
     {
         self.sum(a, self.negative(b))
@@ -109,7 +98,6 @@ impl Field {
 
     // a b modulo p.
     pub fn product(self, a: u32, b: u32) -> u32
-        requires { 0 < self.modulus }
         ensures { result ≡ (a * b) % self.modulus }
     {
         self.reduced(whole_product(a, b))
@@ -117,7 +105,6 @@ impl Field {
 
     // a^e modulo p, by squaring.
     pub fn power(self, a: u32, e: u32) -> u32
-        requires { 0 < self.modulus }
         ensures { result ≡ (a ^ e) % self.modulus }
     {
         let mut r = 1 % self.modulus;

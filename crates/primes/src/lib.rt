@@ -5,6 +5,9 @@ ghost use Rattle.std.specs.Prelude.{◌≡◌};
 ghost use Rattle.definition.specs.Calls.{Table};
 ghost use Rattle.definition.specs.PrimeTable.{prime_table};
 ghost use Rattle.primes.specs.Member.{member};
+ghost use Rattle.reason.specs.Numbers.{number, value};
+
+use reason::Refusal;
 
 // Largest first.
 const TABLE: [u32; 16] = [
@@ -12,41 +15,16 @@ const TABLE: [u32; 16] = [
     2147483489, 2147483477, 2147483423, 2147483399, 2147483353, 2147483323, 2147483269, 2147483249,
 ];
 
-// The number that a call returns, and the prime: 0 and an entry, or a refusal and 0.
-#[repr(C)]
-#[derive(Clone, Copy)]
-pub struct Answer {
-    pub number: u32,
-    pub prime: u32,
-}
-
 // Entry `index` of the table.
-pub fn prime(index: u32) -> Answer
-    ensures { Table index result.number result.prime }
+pub fn prime(index: u32) -> Result<u32, Refusal>
+    ensures { Table index (number result) (value result) }
 {
-    if index < 16 {
-        Answer {
-            number: 0,
-            prime: TABLE[index as usize],
-        }
-    } else {
-        Answer {
-            number: 14,
-            prime: 0,
-        }
-    }
+    TABLE.get(index as usize).copied().ok_or(Refusal::Index)
 }
 
 // Whether `p` is an entry of the table.
 pub fn in_table(p: u32) -> bool
     ensures { result ≡ member p prime_table }
 {
-    let mut i: usize = 0;
-    while i < 16 {
-        if TABLE[i] == p {
-            return true;
-        }
-        i += 1;
-    }
-    false
+    TABLE.contains(&p)
 }

@@ -1,5 +1,5 @@
-// The number that each of the calls compose, reverse, open (of a chain), cycle and render returns, and the places of work of a cycle.
-#![tactic(auto)]
+// Why each of the calls compose, reverse, open (of a chain), cycle and render is refused, and the places of work of a cycle.
+#![tactic(auto, using(std::proofs::lemmas::Bool::Decides::nat_tests), unfolding(definition::specs::Refusal::compose_refusal, definition::specs::Refusal::cycle_refusal, definition::specs::Refusal::first, definition::specs::Refusal::not_places, definition::specs::Refusal::open_refusal, definition::specs::Refusal::render_refusal, definition::specs::Refusal::reverse_refusal, definition::specs::Refusal::test, definition::specs::Refusal::too_long))]
 
 ghost use Rattle.std.specs.Prelude.{◌≡◌, ◌≤◌};
 ghost use Rattle.definition.specs.Refusal.{
@@ -12,9 +12,11 @@ ghost use Rattle.definition.specs.Refusal.{
   render_refusal,
   reverse_refusal,
 };
+ghost use Rattle.reason.specs.Numbers.{number};
 ghost use Rattle.refusal_tests.specs.Tests.{list_tests};
 
-use refusal_tests::{coefficient_number, field_number, next_number, routed_number, short_work};
+use reason::{Refusal, refuse_if};
+use refusal_tests::{coefficients, either_has_constant, field, irreversible, routed, short_work};
 use route::{LIMIT, WORK_PER_COEFFICIENT, WORK_PER_POWER};
 
 // The places of work of a cycle for each power of x below the order. For each coefficient of its list they are those of a composition.
@@ -22,14 +24,6 @@ const CYCLE_WORK_PER_POWER: usize = 144;
 
 // The most cycles of a chain.
 const MOST_CYCLES: u32 = 64;
-
-// What compose and reverse answer.
-#[repr(C)]
-#[derive(Clone, Copy)]
-pub struct Answer {
-    pub number: u32,
-    pub weight: u64,
-}
 
 // The places of work that a cycle of m coefficients asks for.
 pub fn cycle_places(n: usize, m: usize) -> usize
@@ -39,7 +33,7 @@ pub fn cycle_places(n: usize, m: usize) -> usize
     CYCLE_WORK_PER_POWER * n + WORK_PER_COEFFICIENT * m
 }
 
-// The number that compose returns for blocks of b places, an output of `places` places and `work` places of work.
+// The tests of compose for blocks of b places, an output of `places` places and `work` places of work.
 pub fn compose(
     route: u32,
     b: usize,
@@ -49,36 +43,39 @@ pub fn compose(
     g: &[u32],
     places: usize,
     work: usize,
-) -> u32
-    ensures { result ≡ compose_refusal route b p n f.now g.now places work }
+) -> Result<(), Refusal>
+    ensures { number result ≡ compose_refusal route b p n f.now g.now places work }
 {
-    let number = next_number(routed_number(route, b, p, n), 4, f.len() > LIMIT);
-    let number = next_number(number, 5, g.len() > LIMIT);
-    let number = next_number(number, 6, places != n);
-    let number = next_number(number, 7, short_work(WORK_PER_POWER, n, f.len(), work));
-    let number = coefficient_number(number, p, f);
-    coefficient_number(number, p, g)
+    routed(route, b, p, n)?;
+    refuse_if(f.len() > LIMIT, Refusal::OuterLength)?;
+    refuse_if(g.len() > LIMIT, Refusal::InnerLength)?;
+    refuse_if(places != n, Refusal::Places)?;
+    refuse_if(short_work(WORK_PER_POWER, n, f.len(), work), Refusal::Work)?;
+    coefficients(p, f)?;
+    coefficients(p, g)
 }
 
-// The number that reverse returns for the series g, an output of `places` places and `work` places of work.
-pub fn reverse(p: u32, n: usize, g: &[u32], places: usize, work: usize) -> u32
-    ensures { result ≡ reverse_refusal p n g.now places work }
+// The tests of reverse for the series g, an output of `places` places and `work` places of work.
+pub fn reverse(p: u32, n: usize, g: &[u32], places: usize, work: usize) -> Result<(), Refusal>
+    ensures { number result ≡ reverse_refusal p n g.now places work }
 {
-    let number = next_number(field_number(p, n), 5, g.len() > LIMIT);
-    let number = next_number(number, 6, places != n);
-    let number = next_number(number, 7, short_work(WORK_PER_POWER, n, g.len(), work));
-    let number = coefficient_number(number, p, g);
-    next_number(number, 9, refusal_tests::irreversible(n, g))
+    field(p, n)?;
+    refuse_if(g.len() > LIMIT, Refusal::InnerLength)?;
+    refuse_if(places != n, Refusal::Places)?;
+    refuse_if(short_work(WORK_PER_POWER, n, g.len(), work), Refusal::Work)?;
+    coefficients(p, g)?;
+    refuse_if(irreversible(n, g), Refusal::Irreversible)
 }
 
-// The number that opening a chain returns for a running buffer of `places` places.
-pub fn open(p: u32, n: usize, places: usize) -> u32
-    ensures { result ≡ open_refusal p n places }
+// The tests of opening a chain for a running buffer of `places` places.
+pub fn open(p: u32, n: usize, places: usize) -> Result<(), Refusal>
+    ensures { number result ≡ open_refusal p n places }
 {
-    next_number(field_number(p, n), 6, places != n)
+    field(p, n)?;
+    refuse_if(places != n, Refusal::Places)
 }
 
-// The number that a cycle with the list c returns for blocks of b places, where s is the running series and `done` cycles are done.
+// The tests of a cycle with the list c for blocks of b places, where s is the running series and `done` cycles are done.
 pub fn cycle(
     route: u32,
     b: usize,
@@ -88,39 +85,43 @@ pub fn cycle(
     c: &[u32],
     s: &[u32],
     work: usize,
-) -> u32
-    ensures { result ≡ cycle_refusal route b (record { modulus = p; order = n; done = done }) c.now s.now work }
+) -> Result<(), Refusal>
+    ensures { number result ≡ cycle_refusal route b (record { modulus = p; order = n; done = done }) c.now s.now work }
 {
-    let number = next_number(routed_number(route, b, p, n), 5, c.len() > LIMIT);
-    let number = next_number(number, 6, s.len() != n);
-    let number = next_number(
-        number,
-        7,
+    routed(route, b, p, n)?;
+    refuse_if(c.len() > LIMIT, Refusal::InnerLength)?;
+    refuse_if(s.len() != n, Refusal::Places)?;
+    refuse_if(
         short_work(CYCLE_WORK_PER_POWER, n, c.len(), work),
-    );
-    let number = coefficient_number(number, p, c);
-    let number = coefficient_number(number, p, s);
-    let number = next_number(number, 10, refusal_tests::either_has_constant(c, s));
-    next_number(number, 11, done >= MOST_CYCLES)
+        Refusal::Work,
+    )?;
+    coefficients(p, c)?;
+    coefficients(p, s)?;
+    refuse_if(either_has_constant(c, s), Refusal::Constant)?;
+    refuse_if(done >= MOST_CYCLES, Refusal::Cycles)
 }
 
-// The number of the tests that rendering makes of order and list: 3, 6 or 0. A refusal number meets neither.
-pub fn list_number(number: u32, n: usize, places: usize) -> u32
-    ensures { result ≡ first (list_tests number n places) }
+// The tests that rendering the answer of number `answer` makes of order and list. A refusal meets neither.
+pub fn list(answer: u32, n: usize, places: usize) -> Result<(), Refusal>
+    ensures { number result ≡ first (list_tests answer n places) }
 {
-    if number != 0 {
-        return 0;
+    if answer != 0 {
+        return Ok(());
     }
-    next_number(
-        next_number(0, 3, refusal_tests::bad_order(n)),
-        6,
-        places != n,
-    )
+    refuse_if(refusal_tests::bad_order(n), Refusal::Order)?;
+    refuse_if(places != n, Refusal::Places)
 }
 
-// The number that rendering returns for a list of `places` places, a text of `bytes` bytes and a buffer of `text` bytes.
-pub fn render(number: u32, n: usize, places: usize, bytes: usize, text: usize) -> u32
-    ensures { result ≡ render_refusal number n places bytes text }
+// The tests of rendering for a list of `places` places, a text of `bytes` bytes and a buffer of `text` bytes.
+pub fn render(
+    answer: u32,
+    n: usize,
+    places: usize,
+    bytes: usize,
+    text: usize,
+) -> Result<(), Refusal>
+    ensures { number result ≡ render_refusal answer n places bytes text }
 {
-    next_number(list_number(number, n, places), 7, text < bytes)
+    list(answer, n, places)?;
+    refuse_if(text < bytes, Refusal::Work)
 }

@@ -1,22 +1,24 @@
 -- `refusal_tests::bad_modulus` meets its contract: a number of the table is a prime below the largest modulus, and of any other what the refusing
 -- constructor answers tells. Assumes nothing.
-use mathlib.Core.Path.{sym, ◌∙◌}
+use mathlib.Core.Path.{◌≡◌, sym, ◌∙◌}
 use native.Mathlib.Omega.{arith}
+use Rattle.std.specs.Prelude.{ℕ, Bool, not, Option, Some, None, is_some}
 use Rattle.definition.specs.Prime.{largest_modulus}
-use Rattle.field.specs.Opening.{prime_taken, refused-modulus, taken_modulus}
+use Rattle.definition.specs.Refusal.{bad_modulus}
+use Rattle.field.specs.declared.Field.{Field}
+use Rattle.field.specs.Opening.{Opening, prime_taken, refused-modulus, taken_modulus}
 use Rattle.primes.proofs.Table.{member-prime}
 use Rattle.refusal_tests.proofs.bad_modulus.Goals as goal
 
-pub returns-then-in_table : goal.returns-then-in_table
+opened : (p : ℕ) (answer : Option Field) {refused : Bool} → Opening p answer → is_some answer ≡ not refused → refused ≡ bad_modulus p
+opened p (Some f) o e = let taken = (taken_modulus p f o).0 in grind arith
+opened p None o e = let refused = refused-modulus p o in grind arith
+
+pub returns-then-not-in_table : goal.returns-then-not-in_table
+returns-then-not-in_table c = opened _ _ c.new.ensures c.is_none.ensures
+
+pub returns-else-not-in_table : goal.returns-else-not-in_table
 unfolding largest_modulus
-returns-then-in_table c =
-    sym
-    (prime_taken c.args.p
-    (member-prime _ (sym c.in_table.ensures ∙ c.if-in_table.true))
-    (omega arith))
-
-pub returns-in-Field : goal.returns-in-Field
-returns-in-Field c = sym (taken_modulus _ _ (c.in-Field.ensures)).0
-
-pub returns-in-Refused : goal.returns-in-Refused
-returns-in-Refused c = sym (refused-modulus _ (c.in-Refused.ensures))
+returns-else-not-in_table c =
+    rw c.if-not-in_table.false
+    (sym (prime_taken c.args.p (member-prime _ (sym c.in_table.ensures ∙ c.if-not-in_table.false)) (omega arith)))

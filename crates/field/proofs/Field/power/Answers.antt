@@ -9,7 +9,7 @@ use Rattle.field.proofs.Field.power.Goals.{then-k-eq1, else-k-eq1}
 use Rattle.field.proofs.Field.power.Goals as goal
 
 pub loop-k-init : goal.loop-k-init
-loop-k-init c = (search rules, mod-lt 1 c.requires, mod-mul-mod 1 _ _ ∙ rw one-mul)
+loop-k-init c = (search rules, mod-lt 1 c.args.self.positive, mod-mul-mod 1 _ _ ∙ rw one-mul)
 
 pub loop-k-preserved : goal.loop-k-preserved
 loop-k-preserved c =
