@@ -32,49 +32,34 @@ pub fn field(file: &[u8], k: usize) -> u32
 }
 
 // Whether the file is longer than the longest, or its header, if it is whole, states too large an order or count.
+#[tactic(auto, using(std::proofs::lemmas::Bool::Decides::nat_tests), unfolding(definition::specs::Job::header_bytes, definition::specs::Job::order, definition::specs::Job::too_large))]
 pub fn too_large(file: &[u8]) -> bool
     ensures { result ≡ too_large file.now }
 {
-    if file.len() > MOST_BYTES {
-        return true;
-    }
-    if file.len() < HEADER {
-        return false;
-    }
-    if field(file, 2) > MOST_STATED {
-        return true;
-    }
-    if field(file, 3) > MOST_STATED {
-        return true;
-    }
-    field(file, 5) > MOST_STATED
+    file.len() > MOST_BYTES
+        || HEADER <= file.len()
+            && (field(file, 2) > MOST_STATED
+                || field(file, 3) > MOST_STATED
+                || field(file, 5) > MOST_STATED)
 }
 
 // Whether a list is not empty, and begins in the header or does not lie wholly in the file.
+#[tactic(auto, using(std::proofs::lemmas::Bool::Decides::nat_tests), unfolding(definition::specs::Job::header_bytes, definition::specs::Job::misplaced))]
 fn misplaced(file: &[u8], count: u32, at: u32) -> bool
     ensures { result ≡ misplaced file.now count at }
 {
-    if count == 0 {
-        return false;
-    }
-    let start = at as usize;
-    if start < HEADER {
-        return true;
-    }
-    file.len() < start + 4 * (count as usize)
+    let (start, places) = (at as usize, count as usize);
+    count != 0 && (start < HEADER || file.len() < start + 4 * places)
 }
 
 // Whether the header is cut short, or a list is misplaced.
+#[tactic(auto, using(std::proofs::lemmas::Bool::Decides::nat_tests), unfolding(definition::specs::Job::cut_short, definition::specs::Job::header_bytes))]
 pub fn cut_short(file: &[u8]) -> bool
     ensures { result ≡ cut_short file.now }
 {
-    if file.len() < HEADER {
-        return true;
-    }
-    if misplaced(file, field(file, 3), field(file, 4)) {
-        return true;
-    }
-    misplaced(file, field(file, 5), field(file, 6))
+    file.len() < HEADER
+        || misplaced(file, field(file, 3), field(file, 4))
+        || misplaced(file, field(file, 5), field(file, 6))
 }
 
 // Reads the list from place `at` on, with as many numbers as `list` has places.

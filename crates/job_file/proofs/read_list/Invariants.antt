@@ -1,5 +1,4 @@
 -- `job_file::read_list` meets its contract: after i turns the first i numbers are written. Assumes nothing.
-use Prim.Native.Nat.{◌-◌}
 use lib.ListN.{length}
 use Rattle.buffer.specs.Filling.{Filling}
 use Rattle.definition.specs.Job as job
