@@ -1,14 +1,16 @@
-// Chains of cycles: a record of modulus, order and cycles done, by value, and the calls that open it and carry out a cycle. The running
-// series stands in a buffer that the caller lends.
+// Chains of cycles: a record of modulus, order and cycles done, and the calls that open it and carry out a cycle. The running series stands
+// in a buffer that the caller lends.
 #![tactic(auto)]
 
 ghost use Rattle.std.specs.Prelude.{◌≡◌, length};
-ghost use Rattle.chain.specs.Record.{recorded};
+ghost use Rattle.chain.specs.Record.{opened, recorded};
 ghost use Rattle.definition.specs.Calls.{Cycle, Open};
 ghost use Rattle.definition.specs.Ranged.{block_length};
 ghost use Rattle.definition.specs.Reversion.{identity};
+ghost use Rattle.reason.specs.Numbers.{number, value};
 
 use product::Weight;
+use reason::Refusal;
 
 // A chain record.
 #[repr(C)]
@@ -17,24 +19,6 @@ pub struct Chain {
     pub modulus: u32,
     pub order: usize,
     pub done: u32,
-}
-
-// What an opening answers, with the record that it leaves.
-#[repr(C)]
-#[derive(Clone, Copy)]
-pub struct Opened {
-    pub number: u32,
-    pub weight: u64,
-    pub chain: Chain,
-}
-
-// What a cycle answers, with the record that it leaves.
-#[repr(C)]
-#[derive(Clone, Copy)]
-pub struct Cycled {
-    pub number: u32,
-    pub weight: u64,
-    pub chain: Chain,
 }
 
 // The whole buffer becomes x modulo x^n, n being its count.
@@ -47,75 +31,50 @@ fn put_identity(s: &mut [u32])
 
 impl Chain {
     // Opens a chain: the running series becomes x modulo x^n.
-    pub fn open(modulus: u32, order: usize, running: &mut [u32]) -> Opened
-        ensures { Open modulus order running.old running.new
-            result.number result.weight (recorded result.chain) }
+    pub fn open(modulus: u32, order: usize, running: &mut [u32]) -> Result<Chain, Refusal>
+        ensures { Open modulus order running.old running.new (number result) 0 (opened result) }
     {
-        let number = refusal::open(modulus, order, running.len());
-        if number != 0 {
-            let none = Chain {
-                modulus: 0,
-                order: 0,
-                done: 0,
-            };
-            return Opened {
-                number: number,
-                weight: 0,
-                chain: none,
-            };
-        }
+        refusal::open(modulus, order, running.len())?;
         put_identity(running);
-        let chain = Chain {
-            modulus: modulus,
-            order: order,
+        Ok(Chain {
+            modulus,
+            order,
             done: 0,
-        };
-        Opened {
-            number: 0,
-            weight: 0,
-            chain: chain,
-        }
+        })
     }
 
     // A cycle: the running series S becomes S(C) modulo x^n by the route named, C being the list, so that the earliest cycle is outermost.
-    // Route 2 takes blocks of b places.
+    // Route 2 takes blocks of b places. It answers the weight of the route.
     pub fn cycle_blocks(
-        mut self,
+        &mut self,
         route: u32,
         b: usize,
         list: &[u32],
         running: &mut [u32],
         work: &mut [u32],
-    ) -> Cycled
-        ensures { Cycle route b (recorded self) list.now running.old running.new
-            work.old work.new result.number result.weight (recorded result.chain) }
+    ) -> Result<u64, Refusal>
+        ensures { Cycle route b (recorded self.old) list.now running.old running.new
+            work.old work.new (number result) (value result) (recorded self.new) }
     {
-        let p = self.modulus;
-        let n = self.order;
-        let number = refusal::cycle(route, b, p, n, self.done, list, running, work.len());
-        if number != 0 {
-            return Cycled {
-                number: number,
-                weight: 0,
-                chain: self,
-            };
-        }
+        let (p, n) = (self.modulus, self.order);
+        refusal::cycle(route, b, p, n, self.done, list, running, work.len())?;
         let products: Weight = compose::run(route, b, p, n, running, list, work);
         let weight = products.value();
-        let places = refusal::cycle_places(n, list.len());
-        route::finish(work, running, places);
+        route::finish(work, running, refusal::cycle_places(n, list.len()));
         self.done += 1;
-        Cycled {
-            number: 0,
-            weight: weight,
-            chain: self,
-        }
+        Ok(weight)
     }
 
     // The same, in blocks of the length where none is named.
-    pub fn cycle(self, route: u32, list: &[u32], running: &mut [u32], work: &mut [u32]) -> Cycled
-        ensures { Cycle route block_length (recorded self) list.now running.old running.new
-            work.old work.new result.number result.weight (recorded result.chain) }
+    pub fn cycle(
+        &mut self,
+        route: u32,
+        list: &[u32],
+        running: &mut [u32],
+        work: &mut [u32],
+    ) -> Result<u64, Refusal>
+        ensures { Cycle route block_length (recorded self.old) list.now running.old running.new
+            work.old work.new (number result) (value result) (recorded self.new) }
     {
         self.cycle_blocks(route, compose::BLOCK_LENGTH, list, running, work)
     }

@@ -7,10 +7,11 @@ ghost use Rattle.definition.specs.Prime.{Prime};
 ghost use Rattle.definition.specs.Ranged.{block_length};
 ghost use Rattle.definition.specs.Refusal.{longest_block};
 ghost use Rattle.definition.specs.Weight.{weight};
+ghost use Rattle.reason.specs.Numbers.{number, value};
 ghost use Rattle.route.specs.Contract.{Lent, Route};
 
 use product::Weight;
-use refusal::Answer;
+use reason::Refusal;
 
 // The block length of route 2 where a call names none.
 pub const BLOCK_LENGTH: usize = 4;
@@ -21,16 +22,12 @@ pub fn run(route: u32, b: usize, p: u32, n: usize, f: &[u32], g: &[u32], w: &mut
     ensures { Route p n f.now g.now (weight route b p n (length f.now))
         w.old w.new result.places }
 {
-    if route == 1 {
-        return horner::horner(p, n, f, g, w);
+    match route {
+        1 => horner::horner(p, n, f, g, w),
+        2 => ranged::ranged(p, n, b, f, g, w),
+        3 => bernstein::bernstein(p, n, f, g, w),
+        _ => kinoshita_li::kinoshita_li(p, n, f, g, w),
     }
-    if route == 2 {
-        return ranged::ranged(p, n, b, f, g, w);
-    }
-    if route == 3 {
-        return bernstein::bernstein(p, n, f, g, w);
-    }
-    kinoshita_li::kinoshita_li(p, n, f, g, w)
 }
 
 // f(g) modulo x^n in `out`, with the weight of the route. Route 2 takes blocks of b places.
@@ -43,24 +40,14 @@ pub fn compose_blocks(
     g: &[u32],
     out: &mut [u32],
     work: &mut [u32],
-) -> Answer
+) -> Result<u64, Refusal>
     ensures { Compose route b p n f.now g.now out.old out.new
-        work.old work.new result.number result.weight }
+        work.old work.new (number result) (value result) }
 {
-    let number = refusal::compose(route, b, p, n, f, g, out.len(), work.len());
-    if number != 0 {
-        return Answer {
-            number: number,
-            weight: 0,
-        };
-    }
+    refusal::compose(route, b, p, n, f, g, out.len(), work.len())?;
     let weight = run(route, b, p, n, f, g, work).value();
-    let places = route::work_places(n, f.len());
-    route::finish(work, out, places);
-    Answer {
-        number: 0,
-        weight: weight,
-    }
+    route::finish(work, out, route::work_places(n, f.len()));
+    Ok(weight)
 }
 
 // The same, in blocks of the length where none is named.
@@ -72,9 +59,9 @@ pub fn compose(
     g: &[u32],
     out: &mut [u32],
     work: &mut [u32],
-) -> Answer
+) -> Result<u64, Refusal>
     ensures { Compose route block_length p n f.now g.now out.old out.new
-        work.old work.new result.number result.weight }
+        work.old work.new (number result) (value result) }
 {
     compose_blocks(route, BLOCK_LENGTH, p, n, f, g, out, work)
 }

@@ -3,7 +3,9 @@
 --   number_of r   the number of a refusal
 --   number a      the number of an answer: 0 where the call is accepted
 --   value a       what an answer returns beside its number: 0 after a refusal
-use Rattle.std.specs.Prelude.{ℕ, Result, Ok, Err}
+--   refused       the number of a refusal is not 0
+use Rattle.std.specs.Prelude.{ℕ, ◌≢◌, Result, Ok, Err}
+use Rattle.std.proofs.Common.{arith}
 use Rattle.reason.specs.declared.Refusal.{Refusal}
 use Rattle.reason.specs.declared.Refusal.TheVariants.{
   Block,
@@ -47,3 +49,20 @@ number (Err r) = number_of r
 abbrev pub value : Result ℕ Refusal → ℕ
 value (Ok v) = v
 value (Err r) = 0
+
+pub refused : (r : Refusal) → number_of r ≢ 0
+refused Route e = omega arith
+refused Modulus e = omega arith
+refused Order e = omega arith
+refused OuterLength e = omega arith
+refused InnerLength e = omega arith
+refused Places e = omega arith
+refused Work e = omega arith
+refused Coefficient e = omega arith
+refused Irreversible e = omega arith
+refused Constant e = omega arith
+refused Cycles e = omega arith
+refused FileSize e = omega arith
+refused FileShort e = omega arith
+refused Index e = omega arith
+refused Block e = omega arith

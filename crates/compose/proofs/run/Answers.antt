@@ -1,34 +1,17 @@
 -- `compose::run` meets its contract. Assumes nothing.
-use borrow.Author.Rules.{rules}
-use native.Mathlib.Omega.{arith}
+use Rattle.std.proofs.Common.{arith}
 use Rattle.compose.specs.Numbers.{weight-1, weight-2, weight-3, weight-4}
 use Rattle.compose.proofs.run.Goals as goal
 
-pub horner-requires : goal.horner-requires
-horner-requires c = c.requires.0
+pub returns-in-1 : goal.returns-in-1
+returns-in-1 c = rw (weight-1 {route = c.args.route} _ _ _ _ c.in-1.is) c.horner.ensures
 
-pub returns-then-route-eq1 : goal.returns-then-route-eq1
-returns-then-route-eq1 c = rw (weight-1 {route = c.args.route} _ _ _ _ (omega (arith, c.if-route-eq1.true))) c.horner.ensures
+pub returns-in-2 : goal.returns-in-2
+returns-in-2 c = rw (weight-2 {route = c.args.route} _ _ _ _ c.in-2.is) c.ranged.ensures
 
-pub ranged-requires : goal.ranged-requires
-ranged-requires c =
-    let pre = c.requires in
-    (pre.0, pre.2 c.if-route-eq2.true)
+pub returns-in-3 : goal.returns-in-3
+returns-in-3 c = rw (weight-3 {route = c.args.route} _ _ _ _ c.in-3.is) c.bernstein.ensures
 
-pub returns-then-route-eq2 : goal.returns-then-route-eq2
-returns-then-route-eq2 c = rw (weight-2 {route = c.args.route} _ _ _ _ (omega (arith, c.if-route-eq2.true))) c.ranged.ensures
-
-pub bernstein-requires : goal.bernstein-requires
-bernstein-requires c =
-    let pre = c.requires in
-    (pre.0, pre.1)
-
-pub returns-then-route-eq3 : goal.returns-then-route-eq3
-returns-then-route-eq3 c = rw (weight-3 {route = c.args.route} _ _ _ _ (omega (arith, c.if-route-eq3.true))) c.bernstein.ensures
-
-pub kinoshita_li-requires : goal.kinoshita_li-requires
-kinoshita_li-requires c = c.requires.0
-
-pub returns : goal.returns
-returns c =
-    rw (weight-4 _ _ _ _ c.if-route-eq1.false c.if-route-eq2.false c.if-route-eq3.false) c.kinoshita_li.ensures
+pub returns-in_default : goal.returns-in_default
+returns-in_default c =
+    rw (weight-4 {route = c.args.route} _ _ _ _ (λ e. omega arith) (λ e. omega arith) (λ e. omega arith)) c.kinoshita_li.ensures

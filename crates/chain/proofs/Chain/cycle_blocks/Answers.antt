@@ -1,53 +1,49 @@
 -- `chain::Chain::cycle_blocks` meets its contract. Assumes nothing.
-use borrow.Author.Rules.{rules}
-use native.Mathlib.Omega.{arith}
-use lib.ListN.{length}
-use mathlib.Core.Path.{sym, ◌∙◌}
+use Rattle.std.proofs.Common.{arith, length, refl, sym}
+use Rattle.std.proofs.lemmas.Result.{err_from_is_err_and}
 use Rattle.chain.specs.Answered.{cycle-accepted, cycle-refused}
 use Rattle.chain.specs.Record.{recorded}
+use Rattle.reason.specs.Numbers.{refused}
 use Rattle.refusal.specs.Bounds.{CycleBounds, cycle-bounds, field-lent}
 use Rattle.chain.proofs.Chain.cycle_blocks.Goals as goal
-use Rattle.chain.proofs.Chain.cycle_blocks.Goals.{Else-number-ne0}
+use Rattle.chain.proofs.Chain.cycle_blocks.Goals.{In_ok-cycle}
 
--- what number 0 tells
-
-bounds : (c : Else-number-ne0) → CycleBounds c.args.route c.args.b (recorded c.args.self) c.args.list.now c.args.running.now
+-- what an accepted call tells
+bounds : (c : In_ok-cycle) → CycleBounds c.args.route c.args.b (recorded c.args.self.now) c.args.list.now c.args.running.now
     (length c.args.work.now)
-bounds c = cycle-bounds _ _ _ _ _ _ (sym c.cycle-number.ensures ∙ c.if-number-ne0.false)
+bounds c = cycle-bounds _ _ _ _ _ _ (sym c.in_ok-cycle.ensures)
 
--- the test that a number is 0, back from the end
-
-pub returns-then-number-ne0 : goal.returns-then-number-ne0
-returns-then-number-ne0 c =
-    let args = c.args in
-    cycle-refused args.list.now args.running.now args.work.now c.cycle-number.ensures c.if-number-ne0.true
+pub returns-in_err-cycle : goal.returns-in_err-cycle
+returns-in_err-cycle c =
+    let error = err_from_is_err_and c.from_residual.result c.from_residual.ensures.1 in
+    rw (error.1, error.2) (cycle-refused c.args.list.now c.args.running.now c.args.work.now c.in_err-cycle.ensures (refused _))
 
 pub run-products-requires : goal.run-products-requires
 run-products-requires c =
-    let told = bounds (goal.at.run-products-requires c).Else-number-ne0 in (
+    let told = bounds (goal.at.run-products-requires c).In_ok-cycle in (
       field-lent told.field (omega (arith, told.running, told.inner, told.field.order)) (omega (arith, told.running, told.enough)),
       told.field.prime,
-      search rules,
+      told.blocks,
     )
 
-pub cycle_places-places-requires : goal.cycle_places-places-requires
-cycle_places-places-requires c =
-    let b = bounds (goal.at.cycle_places-places-requires c).Else-number-ne0 in
-    (b.field.order, b.inner)
+pub cycle_places-requires : goal.cycle_places-requires
+cycle_places-requires c =
+    let told = bounds (goal.at.cycle_places-requires c).In_ok-cycle in
+    (told.field.order, told.inner)
 
 pub finish-requires : goal.finish-requires
 finish-requires c =
-    let b = bounds (goal.at.finish-requires c).Else-number-ne0 in
+    let told = bounds (goal.at.finish-requires c).In_ok-cycle in
     let size = c.run-products.auto.w in (
-      omega (arith, b.running, b.enough, size),
-      omega (arith, c.cycle_places-places.ensures, b.enough, size),
+      omega (arith, told.running, told.enough, size),
+      omega (arith, c.cycle_places.ensures, told.enough, size),
     )
 
 pub overflow_add-self : goal.overflow_add-self
-overflow_add-self c = omega (arith, (bounds (goal.at.overflow_add-self c).Else-number-ne0).not_full)
+overflow_add-self c = omega (arith, (bounds (goal.at.overflow_add-self c).In_ok-cycle).not_full)
 
 pub returns : goal.returns
 returns c =
     let args = c.args in
-    cycle-accepted args.list.now args.running.now args.work.now c.cycle-number.ensures c.if-number-ne0.false
-    (bounds (goal.at.returns c).Else-number-ne0).running c.run-products.ensures c.value-weight.ensures c.cycle_places-places.ensures c.finish.ensures
+    cycle-accepted args.list.now args.running.now args.work.now c.in_ok-cycle.ensures refl
+    (bounds (goal.at.returns c).In_ok-cycle).running c.run-products.ensures c.value-weight.ensures c.cycle_places.ensures c.finish.ensures

@@ -1,6 +1,0 @@
--- `chain::Chain::cycle` meets its contract, which is that of `chain::Chain::cycle_blocks` at the length 4. Assumes nothing.
-use borrow.Author.Rules.{rules}
-use Rattle.chain.proofs.Chain.cycle.Goals as goal
-
-pub returns : goal.returns
-returns c = c.cycle_blocks.ensures
