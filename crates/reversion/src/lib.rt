@@ -4,11 +4,12 @@
 ghost use Rattle.std.specs.Prelude.{◌≡◌, ◌<◌, length};
 ghost use Rattle.definition.specs.Calls.{Reverse};
 ghost use Rattle.newton_step.specs.Step.{Reversed};
+ghost use Rattle.reason.specs.Numbers.{number};
 ghost use Rattle.reversion.specs.Iteration.{Reversible};
 ghost use Rattle.reversion.specs.Start.{started};
 
 use field::Field;
-use refusal::Answer;
+use reason::Refusal;
 
 // The reverse series below order 1 or 2: 0, and the inverse of the linear coefficient of g.
 fn start(p: u32, g: &[u32], h: &mut [u32])
@@ -38,21 +39,17 @@ fn newton(p: u32, g: &[u32], h: &mut [u32], w: &mut [u32])
 }
 
 // The reverse series of g: h without constant term such that g(h) is x modulo x^n, in `out`.
-pub fn reverse(p: u32, n: usize, g: &[u32], out: &mut [u32], work: &mut [u32]) -> Answer
-    ensures { Reverse p n g.now out.old out.new work.old work.new
-        result.number result.weight }
+pub fn reverse(
+    p: u32,
+    n: usize,
+    g: &[u32],
+    out: &mut [u32],
+    work: &mut [u32],
+) -> Result<(), Refusal>
+    ensures { Reverse p n g.now out.old out.new work.old work.new (number result) 0 }
 {
-    let number = refusal::reverse(p, n, g, out.len(), work.len());
-    if number != 0 {
-        return Answer {
-            number: number,
-            weight: 0,
-        };
-    }
+    refusal::reverse(p, n, g, out.len(), work.len())?;
     newton(p, g, out, work);
     buffer::clear(work, route::work_places(n, g.len()));
-    Answer {
-        number: 0,
-        weight: 0,
-    }
+    Ok(())
 }

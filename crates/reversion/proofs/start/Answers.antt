@@ -1,5 +1,4 @@
 -- `reversion::start` meets its contract. Assumes nothing.
-use borrow.Author.Rules.{rules}
 use mathlib.Core.Path.{◌∙◌}
 use Rattle.reversion.specs.Start.{started-put, started-zeros}
 use Rattle.reversion.proofs.start.Goals as goal
