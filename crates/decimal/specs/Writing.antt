@@ -1,14 +1,19 @@
 -- Lists printed one after the other into a text.
 --
---   Printed l at text text' next   `next` is the place after l, printed from place `at` on, and where text has room, text' is it with l written there
+--   Written l at text text' next   text' is text with l written from place `at` on, and `next` is the place after it
+--   Printed l at text text' next   `next` is the place after l, printed from place `at` on, and where text has room, l is written there
 --   printed-append                 two lists printed one after the other are one
---   written                        where there is room
+--   printed_written                where there is room
 -- Assumes nothing.
 use Rattle.std.specs.Prelude.{ℕ, ◌+◌, ◌≤◌, List, ◌++◌, ◌≡◌, length}
 use Rattle.std.proofs.Common.{add_assoc, arith, sym, ◌∙◌, length-append}
 use Rattle.std.proofs.lemmas.List.Edits.{sets}
 use Rattle.std.proofs.Math.Seq.{length-sets}
 use Rattle.buffer.specs.Written.{sets-append}
+
+pub record Written (l : List ℕ) (at : ℕ) (text text' : List ℕ) (next : ℕ) : Type 0 where
+  pub holds : text' ≡ sets text at l
+  pub ends : next ≡ at + length l
 
 pub record Printed (l : List ℕ) (at : ℕ) (text text' : List ℕ) (next : ℕ) : Type 0 where
   pub ends : next ≡ at + length l
@@ -22,3 +27,6 @@ printed-append {at} {next} l m {text} {text'} first then = record {
       let front : text' ≡ sets text at l = first.holds (omega (arith, then.ends)) in
       then.holds (rw (front, length-sets) room) ∙ rw (front, first.ends) (sym (sets-append _ at l m));
 }
+
+pub printed_written : {at next : ℕ} {l text text' : List ℕ} → Printed l at text text' next → next ≤ length text → Written l at text text' next
+printed_written printed room = record { holds = printed.holds room; ends = printed.ends }

@@ -2,21 +2,22 @@
 --
 --   rendered-accepted rendered-refused   which text is rendered
 --   render_refused     a call that wrote nothing
+--   render-listed      the same, where the order or the list is refused
 --   render_fits        what number 0 tells
 --   render_accepted    a call that wrote the text
 -- Assumes nothing.
-use Rattle.std.specs.Prelude.{ℕ, zero, suc, ◌≤◌, List, ◌≢◌, ◌≡◌, length}
+use Rattle.std.specs.Prelude.{ℕ, zero, suc, ◌≤◌, ltb, List, [], ◌∷◌, ◌≢◌, ◌≡◌, length}
 use Rattle.std.proofs.Math.Nat.{zero-add}
 use Rattle.std.proofs.Math.Path.{refl, sym}
 use Rattle.std.proofs.Common.{◌∙◌}
 use Rattle.buffer.specs.Written.{sets-front}
 use Rattle.definition.specs.Answer.{overwritten}
 use Rattle.definition.specs.Calls.{Render}
-use Rattle.definition.specs.Refusal.{render_refusal}
+use Rattle.definition.specs.Refusal.{first, render_refusal, test}
 use Rattle.definition.specs.Text.{accepted, refused, rendered}
 use Rattle.refusal.specs.Answers.{answered-accepted, answered-refused, kept-accepted, kept-refused}
 use Rattle.refusal.specs.Bounds.{render_bounds}
-use Rattle.refusal_tests.specs.Tests.{Passed, first-same, list_tests}
+use Rattle.refusal_tests.specs.Tests.{Passed, first-passed, first-same, list_tests}
 use Rattle.decimal.specs.Writing.{Written}
 
 pub rendered-accepted : {number : ℕ} (n weight : ℕ) (l : List ℕ) → number ≡ 0 → rendered number n weight l ≡ accepted n weight l
@@ -54,3 +55,11 @@ module _ (number n weight : ℕ) (l text : List ℕ) {places number' : ℕ}
     counts = written.ends ∙ zero-add _ ∙ sym (answered-accepted _ refl);
     writes = written.holds ∙ sym (sets-front text _ (rendered number n weight l) refl (render_fits accepted).1) ∙ sym (kept-accepted _ text refl);
   }
+
+pub render-listed : (number n weight : ℕ) (l text : List ℕ) {number' : ℕ} → number' ≡ first (list_tests number n (length l)) → number' ≢ 0
+    → Render number n weight l text text number' 0
+unfolding render_refusal
+render-listed number n weight l text listed refused =
+    let tests = list_tests number n (length l) in
+    let tested = first-same tests [] (test 7 (ltb (length text) 0) ∷ []) (λ passes. absurd (refused (listed ∙ first-passed tests passes))) in
+    render_refused number n weight l text {places = 0} (λ passes. absurd (refused (listed ∙ first-passed tests passes))) (listed ∙ tested) refused
