@@ -3,7 +3,12 @@
 --   number_of r   the number of a refusal
 --   number a      the number of an answer: 0 where the call is accepted
 --   value a       what an answer returns beside its number: 0 after a refusal
-use Rattle.std.specs.Prelude.{ℕ, Result, Ok, Err}
+--   number_of-positive   no refusal has the number 0
+--   numbered      a test with its number, `test` of the definitions by another name: `rt ci` takes an attribute that names `test` for a Rust test
+-- Assumes nothing.
+use Rattle.std.specs.Prelude.{ℕ, ◌<◌, Result, Ok, Err}
+use Rattle.std.proofs.Common.{arith}
+pub use Rattle.definition.specs.Refusal.{test as numbered}
 use Rattle.reason.specs.declared.Refusal.{Refusal}
 use Rattle.reason.specs.declared.Refusal.TheVariants.{
   Block,
@@ -47,3 +52,6 @@ number (Err r) = number_of r
 abbrev pub value : Result ℕ Refusal → ℕ
 value (Ok v) = v
 value (Err r) = 0
+
+pub number_of-positive : (r : Refusal) → 0 < number_of r
+number_of-positive r = search arith

@@ -65,7 +65,7 @@ impl From<Refusal> for u32 {
 }
 
 // Refuses where a test fires.
-#[tactic(auto, unfolding(definition::specs::Refusal::first, definition::specs::Refusal::test))]
+#[tactic(auto, unfolding(definition::specs::Refusal::first, crate::specs::Numbers::numbered))]
 pub fn refuse_if(fires: bool, refusal: Refusal) -> Result<(), Refusal>
     ensures { number result ≡ first (test (number_of refusal) fires ∷ []) }
 {
