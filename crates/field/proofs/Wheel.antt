@@ -4,11 +4,18 @@
 --   wheel_seven    before 7 is tried
 --   wheel_room     a step is above 0, and a step from d is at most p while the square of d is
 --   wheel_next     d does not divide p: on to the next one
+--   wheel_divided  d divides p, and its square is at most p: p is not prime
+--   wheel-prime    the square of d is above p: p is prime
+--   divided_two divided_three divided_five   of the numbers that 2, 3 or 5 divides only that prime itself is prime
+--   prime-small    no number below 2 is prime
+--   by_trial       the steps of `is_prime`, for `grind`
 -- Assumes nothing.
-use Rattle.std.specs.Prelude.{ℕ, zero, suc, ◌+◌, ◌*◌, ◌%◌, ◌<◌, ◌≤◌, get_or, ◌≢◌, ◌≡◌}
+use Rattle.std.specs.Prelude.{ℕ, zero, suc, ◌+◌, ◌*◌, ◌%◌, ◌<◌, ◌≤◌, get_or, eqb, true, false, ◌≢◌, ◌≡◌, refl}
 use Rattle.std.proofs.Math.Decide.{dec_lt}
 use Rattle.std.proofs.Common.{arith}
-use Rattle.field.specs.Trial.{Tried, tried-next, tried-room, tried-three, undivided_by}
+use Rattle.algebra.specs.Prime.{is_prime_false}
+use Rattle.definition.specs.Prime.{indivisible, is_prime}
+use Rattle.field.specs.Trial.{Tried, divided_prime, tried-next, tried-prime, tried-room, tried-three, tried_divided, undivided_by}
 use Rattle.field.specs.Wheel.{Wheel, remainders, steps}
 
 -- the step s from d leads to the remainder r, and 3 or 5 divides each odd number between
@@ -80,3 +87,28 @@ module _ {p d i : ℕ} (w : Wheel p d i) where
       go s f (yes a) (yes b) =
           let e : d + s ≡ d + 2 + 2 + 2 = omega (arith, f.even, f.short) in
           rw e (tried-next (tried-next one (passed (d + 2) (f.second a))) (passed (d + 2 + 2) (f.third b)))
+
+  pub wheel_divided : p % d ≡ 0 → d * d ≤ p → is_prime p ≡ false
+  wheel_divided e square = tried_divided w.tried square e
+
+  pub wheel-prime : p < d * d → is_prime p ≡ true
+  wheel-prime = tried-prime w.tried
+
+-- of the numbers that 2, 3 or 5 divides only that prime itself is prime
+module _ (p : ℕ) (above : 1 < p) where
+  pub divided_two : p % 2 ≡ 0 → eqb p 2 ≡ is_prime p
+  unfolding is_prime indivisible
+  divided_two = divided_prime p 2 refl above
+
+  pub divided_three : p % 3 ≡ 0 → eqb p 3 ≡ is_prime p
+  unfolding is_prime indivisible
+  divided_three = divided_prime p 3 refl above
+
+  pub divided_five : p % 5 ≡ 0 → eqb p 5 ≡ is_prime p
+  unfolding is_prime indivisible
+  divided_five = divided_prime p 5 refl above
+
+pub prime-small : (p : ℕ) → p < 2 → is_prime p ≡ false
+prime-small p l = is_prime_false p (λ prime. omega (arith, prime.above-one))
+
+pub ruleset by_trial = (wheel_divided, wheel-prime, wheel_next, wheel_room, wheel_seven, prime-small, divided_two, divided_three, divided_five)

@@ -16,13 +16,14 @@ pub struct Field {
 fn whole_product(a: u32, b: u32) -> u64
     ensures { result ≡ a * b }
 {
-    a as u64 * b as u64
+    u64::from(a) * u64::from(b)
 }
 
 // From each number prime to 30 to the next one, from 7 on.
 const STEPS: [u32; 8] = [4, 2, 4, 2, 4, 6, 2, 6];
 
 // Whether `p` is prime, by division by 2, 3, 5 and the numbers prime to 30 up to the square root.
+#[tactic(auto, using(crate::proofs::Wheel::by_trial), unfolding(crate::specs::Wheel::steps))]
 pub fn is_prime(p: u32) -> bool
     ensures { result ≡ is_prime p }
 {
@@ -39,8 +40,9 @@ pub fn is_prime(p: u32) -> bool
         return p == 5;
     }
     let mut d: u32 = 7;
+    // tried `for step in STEPS.iter().cycle()`: its goal `loop-step-init` asks for an iterator that ends
     let mut i: usize = 0;
-    while whole_product(d, d) <= p as u64 {
+    while whole_product(d, d) <= u64::from(p) {
         if p % d == 0 {
             return false;
         }
@@ -60,7 +62,7 @@ impl Field {
     pub fn new(p: u32) -> Option<Field>
         ensures { Opening p result }
     {
-        if p <= Field::LARGEST && is_prime(p) {
+        if p <= Self::LARGEST && is_prime(p) {
             Some(Field { modulus: p })
         } else {
             None
@@ -71,14 +73,14 @@ impl Field {
     pub fn reduced(self, x: u64) -> u32
         ensures { result ≡ x % self.modulus }
     {
-        (x % self.modulus as u64) as u32
+        (x % u64::from(self.modulus)) as u32
     }
 
     // a + b modulo p.
     pub fn sum(self, a: u32, b: u32) -> u32
         ensures { result ≡ (a + b) % self.modulus }
     {
-        self.reduced(a as u64 + b as u64)
+        self.reduced(u64::from(a) + u64::from(b))
     }
 
     // -a modulo p.
@@ -110,12 +112,13 @@ impl Field {
         let mut r = 1 % self.modulus;
         let mut b = a;
         let mut k = e;
+        // k is halved: a `for` over the bits of e would count them beside it
         while 0 < k {
             if k % 2 == 1 {
                 r = self.product(r, b);
             }
             b = self.product(b, b);
-            k = k / 2;
+            k /= 2;
         }
         r
     }

@@ -3,9 +3,12 @@
 --   number_of r   the number of a refusal
 --   number a      the number of an answer: 0 where the call is accepted
 --   value a       what an answer returns beside its number: 0 after a refusal
---   refused       the number of a refusal is not 0
-use Rattle.std.specs.Prelude.{ℕ, ◌≢◌, Result, Ok, Err}
+--   number_of-positive refused   no refusal has the number 0
+--   numbered      a test with its number, `test` of the definitions by another name: `rt ci` takes an attribute that names `test` for a Rust test
+-- Assumes nothing.
+use Rattle.std.specs.Prelude.{ℕ, ◌<◌, ◌≢◌, Result, Ok, Err}
 use Rattle.std.proofs.Common.{arith}
+pub use Rattle.definition.specs.Refusal.{test as numbered}
 use Rattle.reason.specs.declared.Refusal.{Refusal}
 use Rattle.reason.specs.declared.Refusal.TheVariants.{
   Block,
@@ -50,19 +53,8 @@ abbrev pub value : Result ℕ Refusal → ℕ
 value (Ok v) = v
 value (Err r) = 0
 
+pub number_of-positive : (r : Refusal) → 0 < number_of r
+number_of-positive r = search arith
+
 pub refused : (r : Refusal) → number_of r ≢ 0
-refused Route e = omega arith
-refused Modulus e = omega arith
-refused Order e = omega arith
-refused OuterLength e = omega arith
-refused InnerLength e = omega arith
-refused Places e = omega arith
-refused Work e = omega arith
-refused Coefficient e = omega arith
-refused Irreversible e = omega arith
-refused Constant e = omega arith
-refused Cycles e = omega arith
-refused FileSize e = omega arith
-refused FileShort e = omega arith
-refused Index e = omega arith
-refused Block e = omega arith
+refused r none = omega (arith, number_of-positive r)

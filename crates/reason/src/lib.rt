@@ -5,67 +5,51 @@ ghost use Rattle.std.specs.Prelude.{◌≡◌, [], ◌∷◌};
 ghost use Rattle.definition.specs.Refusal.{first, test};
 ghost use Rattle.reason.specs.Numbers.{number, number_of};
 
-// In the order of their numbers, 1 to 15.
+// With their numbers.
 #[derive(Clone, Copy, Debug, PartialEq, Eq)]
 pub enum Refusal {
     // the route is not 1, 2, 3 or 4
-    Route,
+    Route = 1,
     // the modulus is not prime, or above the largest
-    Modulus,
+    Modulus = 2,
     // the order is 0 or above the limit
-    Order,
+    Order = 3,
     // the outer list is longer than the limit
-    OuterLength,
+    OuterLength = 4,
     // the inner list, series or cycle list is longer than the limit
-    InnerLength,
+    InnerLength = 5,
     // the output, running buffer or rendered list has not as many places as the order
-    Places,
+    Places = 6,
     // the work buffer or the text buffer is too short
-    Work,
+    Work = 7,
     // a coefficient is the modulus or more
-    Coefficient,
+    Coefficient = 8,
     // no reverse series exists
-    Irreversible,
+    Irreversible = 9,
     // the cycle or the running series has a constant term
-    Constant,
+    Constant = 10,
     // the chain is full
-    Cycles,
+    Cycles = 11,
     // the job file, or an order or count in its header, is too large
-    FileSize,
+    FileSize = 12,
     // the job file lacks its header or a list
-    FileShort,
+    FileShort = 13,
     // the index is past the end of the table
-    Index,
+    Index = 14,
     // the route is 2, and its block length is 0 or above the longest
-    Block,
+    Block = 15,
 }
 
 impl From<Refusal> for u32 {
     ghost from_gives = { λ refusal n. n ≡ number_of refusal };
 
     fn from(refusal: Refusal) -> u32 {
-        match refusal {
-            Refusal::Route => 1,
-            Refusal::Modulus => 2,
-            Refusal::Order => 3,
-            Refusal::OuterLength => 4,
-            Refusal::InnerLength => 5,
-            Refusal::Places => 6,
-            Refusal::Work => 7,
-            Refusal::Coefficient => 8,
-            Refusal::Irreversible => 9,
-            Refusal::Constant => 10,
-            Refusal::Cycles => 11,
-            Refusal::FileSize => 12,
-            Refusal::FileShort => 13,
-            Refusal::Index => 14,
-            Refusal::Block => 15,
-        }
+        refusal as u32
     }
 }
 
 // Refuses where a test fires.
-#[tactic(auto, unfolding(definition::specs::Refusal::first, definition::specs::Refusal::test))]
+#[tactic(auto, unfolding(definition::specs::Refusal::first, crate::specs::Numbers::numbered))]
 pub fn refuse_if(fires: bool, refusal: Refusal) -> Result<(), Refusal>
     ensures { number result ≡ first (test (number_of refusal) fires ∷ []) }
 {

@@ -1,5 +1,5 @@
 // Why each of the calls compose, reverse, open (of a chain), cycle and render is refused, and the places of work of a cycle.
-#![tactic(auto, using(std::proofs::lemmas::Bool::Decides::nat_tests), unfolding(definition::specs::Refusal::compose_refusal, definition::specs::Refusal::cycle_refusal, definition::specs::Refusal::first, definition::specs::Refusal::not_places, definition::specs::Refusal::open_refusal, definition::specs::Refusal::render_refusal, definition::specs::Refusal::reverse_refusal, definition::specs::Refusal::test, definition::specs::Refusal::too_long))]
+#![tactic(auto, unfolding(definition::specs::Refusal::compose_refusal, definition::specs::Refusal::cycle_refusal, definition::specs::Refusal::first, definition::specs::Refusal::not_places, definition::specs::Refusal::open_refusal, definition::specs::Refusal::render_refusal, definition::specs::Refusal::reverse_refusal, definition::specs::Refusal::too_long, reason::specs::Numbers::numbered))]
 
 ghost use Rattle.std.specs.Prelude.{◌≡◌, ◌≤◌};
 ghost use Rattle.definition.specs.Refusal.{

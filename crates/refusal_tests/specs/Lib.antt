@@ -1,4 +1,4 @@
 -- The tests of what a call is handed.
 --
---   Tests     the number of a list of tests, one test at a time
+--   Tests     what the number of a list of tests tells, and each test that does not fire
 pub mod Tests

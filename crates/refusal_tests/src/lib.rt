@@ -1,5 +1,5 @@
 // The tests that the calls make of what they are handed, and the tests that many calls begin with.
-#![tactic(auto, using(std::proofs::lemmas::Bool::Decides::nat_tests), unfolding(definition::specs::Refusal::bad_block, definition::specs::Refusal::bad_order, definition::specs::Refusal::bad_route, definition::specs::Refusal::first, definition::specs::Refusal::has_constant, definition::specs::Refusal::irreversible, definition::specs::Refusal::test))]
+#![tactic(auto, using(std::proofs::lemmas::Bool::Decides::nat_tests), unfolding(definition::specs::Refusal::bad_block, definition::specs::Refusal::bad_order, definition::specs::Refusal::bad_route, definition::specs::Refusal::first, definition::specs::Refusal::has_constant, definition::specs::Refusal::irreversible, reason::specs::Numbers::numbered))]
 
 ghost use Rattle.std.specs.Prelude.{ltb, ◌||◌, [], ◌∷◌, ◌≡◌, ◌<◌};
 ghost use Rattle.definition.specs.Refusal.{bad_block, bad_modulus, bad_order, bad_route, exceeds, first, has_constant, irreversible, test, work_places};

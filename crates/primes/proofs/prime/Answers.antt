@@ -1,7 +1,7 @@
 -- `primes::prime` meets its contract: the array of the code is the table written out. Assumes nothing.
 use borrow.Author.Tests.{le-leb, lt-leb, ltb-false, ltb-true}
 use denote.Bor.{Bor}
-use mathlib.Core.Path.{◌≡◌, refl, sym}
+use mathlib.Core.Path.{refl, sym}
 use native.Mathlib.Omega.{arith}
 use Prim.Native.Nat.{◌<◌, ◌≤◌}
 use Rattle.std.specs.Prelude.{ℕ, Option, Some, None}

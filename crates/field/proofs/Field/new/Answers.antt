@@ -1,9 +1,8 @@
 -- `Field::new` meets its contract: the two tests are those of `bad_modulus`. Assumes nothing.
 use borrow.Author.Tests.{le-ltb, lt-ltb}
 use native.Mathlib.Omega.{arith}
-use mathlib.Core.Path.{◌≡◌, sym, ◌∙◌}
+use mathlib.Core.Path.{sym, ◌∙◌}
 use Prim.Native.Nat.{◌<◌, ◌≤◌}
-use Rattle.std.specs.Prelude.{false, true}
 use Rattle.algebra.specs.Prime.{prime-positive, prime_of_test}
 use Rattle.definition.specs.Prime.{largest_modulus}
 use Rattle.definition.specs.Refusal.{bad_modulus}

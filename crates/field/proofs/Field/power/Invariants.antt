@@ -4,7 +4,7 @@ use mathlib.Core.Path.{◌≡◌}
 use Rattle.field.proofs.Field.power.Given as goal
 
 abbrev pub invariant-loop-k : goal.invariant-loop-k
-invariant-loop-k l = (0 < l.self.modulus) × (l.r < l.self.modulus) × ((l.r * l.b ^ l.k) % l.self.modulus ≡ (l.a ^ l.e) % l.self.modulus)
+invariant-loop-k l = (l.r < l.self.modulus) × ((l.r * l.b ^ l.k) % l.self.modulus ≡ (l.a ^ l.e) % l.self.modulus)
 
 abbrev pub decreases-loop-k : goal.decreases-loop-k
 decreases-loop-k l = l.k
