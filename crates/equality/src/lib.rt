@@ -4,31 +4,11 @@
 
 ghost use Rattle.chain.specs.Record.{recorded};
 ghost use Rattle.definition.specs.Calls.{Compose, Cycle};
+ghost use Rattle.reason.specs.Numbers.{number, value};
 ghost use Rattle.two_calls.specs.TwoCalls.{Equality};
 
-use chain::{Chain, Cycled};
-use refusal::Answer;
-
-// The answers of two calls of compose.
-#[derive(Clone, Copy)]
-pub struct ComposedTwice {
-    pub first: Answer,
-    pub second: Answer,
-}
-
-// The answers of a call of compose and of a cycle.
-#[derive(Clone, Copy)]
-pub struct ComposedAndCycled {
-    pub first: Answer,
-    pub second: Cycled,
-}
-
-// The answers of two cycles.
-#[derive(Clone, Copy)]
-pub struct CycledTwice {
-    pub first: Cycled,
-    pub second: Cycled,
-}
+use chain::Chain;
+use reason::Refusal;
 
 // Two calls of compose.
 pub fn compose_and_compose(
@@ -48,20 +28,17 @@ pub fn compose_and_compose(
     g2: &[u32],
     out2: &mut [u32],
     work2: &mut [u32],
-) -> ComposedTwice
+) -> (Result<u64, Refusal>, Result<u64, Refusal>)
     ensures compose { Compose route1 b1 p1 n1 f1.now g1.now out1.old out1.new
-        work1.old work1.new result.first.number result.first.weight }
+        work1.old work1.new (number result.0) (value result.0) }
     ensures compose_2 { Compose route2 b2 p2 n2 f2.now g2.now out2.old out2.new
-        work2.old work2.new result.second.number result.second.weight }
-    ensures equality { Equality result.first.number p1 n1 f1.now g1.now out1.new
-        result.second.number p2 n2 f2.now g2.now out2.new }
+        work2.old work2.new (number result.1) (value result.1) }
+    ensures equality { Equality (number result.0) p1 n1 f1.now g1.now out1.new
+        (number result.1) p2 n2 f2.now g2.now out2.new }
 {
     let first = compose::compose_blocks(route1, b1, p1, n1, f1, g1, out1, work1);
     let second = compose::compose_blocks(route2, b2, p2, n2, f2, g2, out2, work2);
-    ComposedTwice {
-        first: first,
-        second: second,
-    }
+    (first, second)
 }
 
 // A call of compose, and a cycle.
@@ -74,57 +51,51 @@ pub fn compose_and_cycle(
     g1: &[u32],
     out1: &mut [u32],
     work1: &mut [u32],
-    chain2: Chain,
+    chain2: &mut Chain,
     route2: u32,
     b2: usize,
     list2: &[u32],
     running2: &mut [u32],
     work2: &mut [u32],
-) -> ComposedAndCycled
+) -> (Result<u64, Refusal>, Result<u64, Refusal>)
     ensures compose { Compose route1 b1 p1 n1 f1.now g1.now out1.old out1.new
-        work1.old work1.new result.first.number result.first.weight }
-    ensures cycle { Cycle route2 b2 (recorded chain2) list2.now running2.old running2.new
-        work2.old work2.new result.second.number result.second.weight (recorded result.second.chain) }
-    ensures equality { Equality result.first.number p1 n1 f1.now g1.now out1.new
-        result.second.number chain2.modulus chain2.order
+        work1.old work1.new (number result.0) (value result.0) }
+    ensures cycle { Cycle route2 b2 (recorded chain2.old) list2.now running2.old running2.new
+        work2.old work2.new (number result.1) (value result.1) (recorded chain2.new) }
+    ensures equality { Equality (number result.0) p1 n1 f1.now g1.now out1.new
+        (number result.1) chain2.old.modulus chain2.old.order
         running2.old list2.now running2.new }
 {
     let first = compose::compose_blocks(route1, b1, p1, n1, f1, g1, out1, work1);
     let second = chain2.cycle_blocks(route2, b2, list2, running2, work2);
-    ComposedAndCycled {
-        first: first,
-        second: second,
-    }
+    (first, second)
 }
 
 // Two cycles, each of a chain of its own.
 pub fn cycle_and_cycle(
-    chain1: Chain,
+    chain1: &mut Chain,
     route1: u32,
     b1: usize,
     list1: &[u32],
     running1: &mut [u32],
     work1: &mut [u32],
-    chain2: Chain,
+    chain2: &mut Chain,
     route2: u32,
     b2: usize,
     list2: &[u32],
     running2: &mut [u32],
     work2: &mut [u32],
-) -> CycledTwice
-    ensures cycle { Cycle route1 b1 (recorded chain1) list1.now running1.old running1.new
-        work1.old work1.new result.first.number result.first.weight (recorded result.first.chain) }
-    ensures cycle_2 { Cycle route2 b2 (recorded chain2) list2.now running2.old running2.new
-        work2.old work2.new result.second.number result.second.weight (recorded result.second.chain) }
-    ensures equality { Equality result.first.number chain1.modulus chain1.order
+) -> (Result<u64, Refusal>, Result<u64, Refusal>)
+    ensures cycle { Cycle route1 b1 (recorded chain1.old) list1.now running1.old running1.new
+        work1.old work1.new (number result.0) (value result.0) (recorded chain1.new) }
+    ensures cycle_2 { Cycle route2 b2 (recorded chain2.old) list2.now running2.old running2.new
+        work2.old work2.new (number result.1) (value result.1) (recorded chain2.new) }
+    ensures equality { Equality (number result.0) chain1.old.modulus chain1.old.order
         running1.old list1.now running1.new
-        result.second.number chain2.modulus chain2.order
+        (number result.1) chain2.old.modulus chain2.old.order
         running2.old list2.now running2.new }
 {
     let first = chain1.cycle_blocks(route1, b1, list1, running1, work1);
     let second = chain2.cycle_blocks(route2, b2, list2, running2, work2);
-    CycledTwice {
-        first: first,
-        second: second,
-    }
+    (first, second)
 }

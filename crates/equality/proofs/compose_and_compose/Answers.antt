@@ -1,5 +1,4 @@
 -- `equality::compose_and_compose` meets its contract: the claim about any two calls, of what the two calls ensure. Assumes nothing.
-use borrow.Author.Rules.{rules}
 use Rattle.two_calls.specs.TwoCalls.{compose}
 use Rattle.two_calls.proofs.TwoCalls.{two_calls}
 use Rattle.equality.proofs.compose_and_compose.Goals as goal

@@ -1,5 +1,4 @@
 -- `equality::cycle_and_cycle` meets its contract: the claim about any two calls, of what the two calls ensure. Assumes nothing.
-use borrow.Author.Rules.{rules}
 use Rattle.two_calls.specs.TwoCalls.{cycle}
 use Rattle.two_calls.proofs.TwoCalls.{two_calls}
 use Rattle.equality.proofs.cycle_and_cycle.Goals as goal
