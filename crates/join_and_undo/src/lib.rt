@@ -5,17 +5,18 @@
 ghost use Rattle.std.specs.Prelude.{ℕ, List, ◌≡◌};
 ghost use Rattle.chain.specs.Record.{recorded};
 ghost use Rattle.definition.specs.Calls.{Compose, Cycle, Reverse};
+ghost use Rattle.reason.specs.Numbers.{number, value};
 ghost use Rattle.sequence.specs.Cut.{Joined};
 
-use chain::{Chain, Cycled};
-use refusal::Answer;
+use chain::Chain;
+use reason::Refusal;
 
 // The answers of a reverse, of the cycle and of the cycle that undoes it.
 #[derive(Clone, Copy)]
 pub struct Undone {
-    pub reversed: Answer,
-    pub cycled: Cycled,
-    pub undone: Cycled,
+    pub reversed: Result<(), Refusal>,
+    pub cycled: Result<u64, Refusal>,
+    pub undone: Result<u64, Refusal>,
 }
 
 // Joins the halves of a protocol: the running series of a chain, composed with that of a second chain, opened with the same p and n. Where
@@ -29,19 +30,19 @@ pub fn join(
     second: &[u32],
     out: &mut [u32],
     work: &mut [u32],
-) -> Answer
+) -> Result<u64, Refusal>
     ensures compose { Compose route b p n first.now second.now out.old out.new
-        work.old work.new result.number result.weight }
-    ensures joined { Joined p n first.now second.now result.number out.new }
+        work.old work.new (number result) (value result) }
+    ensures joined { Joined p n first.now second.now (number result) out.new }
 {
     compose::compose_blocks(route, b, p, n, first, second, out, work)
 }
 
 // A cycle and its undoing: the reverse series of the cycle list in `reverse`, then the cycle, then a cycle with the reverse series. Each is
-// called, whatever the one before answered. Where all three answered 0, the running series is as it was. In the contract, running1 is what the
-// running series is between the two cycles, work1 and work2 what the work buffer holds before the first and before the second.
+// called, whatever the one before answered. Where none was refused, the running series is as it was. In the contract, between and running1 are
+// the record and the running series between the two cycles, work1 and work2 what the work buffer holds before the first and before the second.
 pub fn undo(
-    chain: Chain,
+    chain: &mut Chain,
     route1: u32,
     b1: usize,
     route2: u32,
@@ -51,22 +52,21 @@ pub fn undo(
     running: &mut [u32],
     work: &mut [u32],
 ) -> Undone
-    ensures calls { (running1 : List ℕ) × (work1 : List ℕ) × (work2 : List ℕ)
-        × Reverse chain.modulus chain.order list.now reverse.old reverse.new
-        work.old work1 result.reversed.number result.reversed.weight
-        × Cycle route1 b1 (recorded chain) list.now running.old running1
-        work1 work2 result.cycled.number result.cycled.weight (recorded result.cycled.chain)
-        × Cycle route2 b2 (recorded result.cycled.chain) reverse.new running1 running.new
-        work2 work.new result.undone.number result.undone.weight (recorded result.undone.chain) }
-    ensures running_unchanged { result.reversed.number ≡ 0 → result.cycled.number ≡ 0 → result.undone.number ≡ 0 → running.new ≡ running.old }
+    ensures calls { (between : _) × (running1 : List ℕ) × (work1 : List ℕ) × (work2 : List ℕ)
+        × Reverse chain.old.modulus chain.old.order list.now reverse.old reverse.new
+        work.old work1 (number result.reversed) 0
+        × Cycle route1 b1 (recorded chain.old) list.now running.old running1
+        work1 work2 (number result.cycled) (value result.cycled) between
+        × Cycle route2 b2 between reverse.new running1 running.new
+        work2 work.new (number result.undone) (value result.undone) (recorded chain.new) }
+    ensures running_unchanged { number result.reversed ≡ 0 → number result.cycled ≡ 0 → number result.undone ≡ 0 → running.new ≡ running.old }
 {
     let reversed = reversion::reverse(chain.modulus, chain.order, list, reverse, work);
     let cycled = chain.cycle_blocks(route1, b1, list, running, work);
-    let next = cycled.chain;
-    let undone = next.cycle_blocks(route2, b2, reverse, running, work);
+    let undone = chain.cycle_blocks(route2, b2, reverse, running, work);
     Undone {
-        reversed: reversed,
-        cycled: cycled,
-        undone: undone,
+        reversed,
+        cycled,
+        undone,
     }
 }

@@ -1,5 +1,4 @@
 -- `join_and_undo::join` meets its contract: the claim about a compose of two running series, of what the call ensures. Assumes nothing.
-use borrow.Author.Rules.{rules}
 use Rattle.sequence.proofs.Cut.{compose-joined}
 use Rattle.join_and_undo.proofs.join.Goals as goal
 
