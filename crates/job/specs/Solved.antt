@@ -2,7 +2,7 @@
 --
 --   Result             an accepted job: its order, its weight and its composition
 --   Solution           the number of a file, and where it is 0 the result in the first places of a list
---   solution_large, solution_short, solution_composed   the three ways to it
+--   solution_large, solution_short, solution_refused, solution_composed   the four ways to it
 --   Printable          the answers that rendering prints into 731 bytes
 --   printed            it accepts them
 --   solution_printable, solution_printed   the solution of a job is one of them, and its printed form is the answer to the file
@@ -12,12 +12,12 @@ use Prim.Native.Nat.{ℕ, zero, suc, ◌^◌, ◌<◌, ◌≤◌}
 use Rattle.std.proofs.Common.{arith, length-take-le, sym, ◌∙◌}
 use borrow.Author.Tests.{eq-eqb, le-ltb, ne_eqb}
 use Rattle.std.proofs.Math.ListN.{length, length-append}
-use Rattle.std.specs.Prelude.{get_or, take, true, false, List, ◌++◌, ◌≡◌}
+use Rattle.std.specs.Prelude.{get_or, take, true, false, List, ◌++◌, ◌≢◌, ◌≡◌}
 use Rattle.std.proofs.Math.Seq.{take_at}
 use Rattle.std.proofs.Math.Path.{refl, ap}
 use Rattle.definition.specs.Answer.{answered, kept, overwritten}
 use Rattle.definition.specs.Calls.{Job, Render}
-use Rattle.definition.specs.Job.{cut_short, field, inner, job_refusal, job_text, modulus, most_places, order, outer, route, too_large}
+use Rattle.definition.specs.Job.{compose_number, cut_short, field, inner, job_refusal, job_text, modulus, most_places, order, outer, route, too_large}
 use Rattle.definition.specs.Ranged.{block_length}
 use Rattle.definition.specs.Refusal.{bad_order, first, limit, not_places, render_refusal, test}
 use Rattle.definition.specs.Substitution.{composed}
@@ -60,6 +60,15 @@ solution_short output large short = record {
 }
 
 module _ {file : List ℕ} (accepted : Accepted file) where
+  pub solution_refused : {number : ℕ} (output : List ℕ) → number ≡ compose_number file → number ≢ 0 → Solution file output number 0 0
+  unfolding job_refusal
+  solution_refused output same refused = record {
+    refusal = rw (accepted.large, accepted.short) same;
+    small = omega arith;
+    fits = omega arith;
+    result = λ e. absurd (refused e);
+  }
+
   pub solution_composed : {number n weight' : ℕ} (output rest : List ℕ) {output' : List ℕ} → n ≡ order file → length output ≡ n → length output' ≡ n
       → Composition file output output' number weight' → Solution file (output' ++ rest) number n weight'
   unfolding job_refusal

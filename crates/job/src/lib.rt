@@ -1,15 +1,16 @@
 // The job program's answer to a file: the file is read by its header, the job composed, and the answer rendered.
 #![tactic(auto)]
 
-ghost use Rattle.std.specs.Prelude.{◌≡◌, length};
+ghost use Rattle.std.specs.Prelude.{◌≡◌, length, MatchResult};
 ghost use Rattle.definition.specs.Calls.{Job, Render};
 ghost use Rattle.definition.specs.Job.{most_places, order};
 ghost use Rattle.definition.specs.Refusal.{compose_work};
 ghost use Rattle.job_file.specs.File.{Accepted};
+ghost use Rattle.reason.specs.Numbers.{number, number_of, value};
 ghost use Rattle.job.specs.Run.{Composition, Lists};
 ghost use Rattle.job.specs.Solved.{Printable, Solution};
 
-use refusal::Answer;
+use reason::Refusal;
 
 // The work for the largest order and count.
 const MOST_WORK: usize = (route::WORK_PER_POWER + route::WORK_PER_COEFFICIENT)
@@ -34,9 +35,9 @@ fn work_places() -> [u32; MOST_WORK]
 }
 
 // Composes the lists of a file that the tests 12 and 13 let pass, into an output of exactly n places.
-fn compose_lists(file: &[u8], f: &[u32], g: &[u32], output: &mut [u32]) -> Answer
+fn compose_lists(file: &[u8], f: &[u32], g: &[u32], output: &mut [u32]) -> Result<u64, Refusal>
     requires { Lists file.now f.now g.now output.old }
-    ensures { Composition file.now output.old output.new result.number result.weight }
+    ensures { Composition file.now output.old output.new (number result) (value result) }
 {
     let mut work = work_places();
     let n = output.len();
@@ -53,9 +54,9 @@ fn compose_lists(file: &[u8], f: &[u32], g: &[u32], output: &mut [u32]) -> Answe
 }
 
 // The same, with the lists read from the file.
-fn compose_file(file: &[u8], output: &mut [u32]) -> Answer
+fn compose_file(file: &[u8], output: &mut [u32]) -> Result<u64, Refusal>
     requires { Accepted file.now × (length output.old ≡ order file.now) }
-    ensures { Composition file.now output.old output.new result.number result.weight }
+    ensures { Composition file.now output.old output.new (number result) (value result) }
 {
     let mut outer = places();
     let m = job_file::read_stated(file, 3, &mut outer);
@@ -64,40 +65,28 @@ fn compose_file(file: &[u8], output: &mut [u32]) -> Answer
     compose_lists(file, &outer[..m], &inner[..k], output)
 }
 
-// What a file is answered: the number, and where it is 0 the order and the weight.
+// The order and the weight of an accepted job.
 #[derive(Clone, Copy)]
 struct Solved {
-    number: u32,
     order: usize,
     weight: u64,
 }
 
-// Solves the job of a file; where the number is 0, the first n places of `output` are the composition.
-fn solve(file: &[u8], output: &mut [u32]) -> Solved
+// Solves the job of a file; where it is accepted, the first places of `output`, as many as its order, are the composition.
+fn solve(file: &[u8], output: &mut [u32]) -> Result<Solved, Refusal>
     requires { most_places ≡ length output.old }
-    ensures { Solution file.now output.new result.number result.order result.weight }
+    ensures { MatchResult result (λ solved. Solution file.now output.new 0 solved.order solved.weight)
+        (λ refusal. Solution file.now output.new (number_of refusal) 0 0) }
 {
     if job_file::too_large(file) {
-        return Solved {
-            number: 12,
-            order: 0,
-            weight: 0,
-        };
+        return Err(Refusal::FileSize);
     }
     if job_file::cut_short(file) {
-        return Solved {
-            number: 13,
-            order: 0,
-            weight: 0,
-        };
+        return Err(Refusal::FileShort);
     }
-    let n = job_file::field(file, 2) as usize;
-    let answer = compose_file(file, &mut output[..n]);
-    Solved {
-        number: answer.number,
-        order: n,
-        weight: answer.weight,
-    }
+    let order = job_file::field(file, 2) as usize;
+    let weight = compose_file(file, &mut output[..order])?;
+    Ok(Solved { order, weight })
 }
 
 // The printed form of an answer of at most 64 coefficients, from place 0 of `text`; the count of its bytes.
@@ -105,8 +94,7 @@ fn print(number: u32, n: usize, weight: u64, list: &[u32], text: &mut [u8; LONGE
     requires { Printable number n list.now }
     ensures { Render number n weight list.now text.old text.new 0 result }
 {
-    let answer = render::render(number, n, weight, list, text);
-    answer.count
+    render::render(number, n, weight, list, text).unwrap_or(0)
 }
 
 // The job program's answer to a file, from place 0 of `text`; the count of its bytes.
@@ -114,7 +102,14 @@ pub fn answer(file: &[u8], text: &mut [u8; LONGEST]) -> usize
     ensures { Job file.now text.old text.new result }
 {
     let mut output = places();
-    let solved = solve(file, &mut output);
-    let n = solved.order;
-    print(solved.number, n, solved.weight, &output[..n], text)
+    match solve(file, &mut output) {
+        Ok(solved) => print(
+            0,
+            solved.order,
+            solved.weight,
+            &output[..solved.order],
+            text,
+        ),
+        Err(refusal) => print(refusal.into(), 0, 0, &[], text),
+    }
 }

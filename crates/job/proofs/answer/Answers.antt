@@ -1,15 +1,9 @@
 -- `job::answer` meets its contract. Assumes nothing.
-use borrow.Author.Rules.{rules}
-use lib.Seq.{length-take-le}
-use mathlib.Core.Path.{sym}
-use Rattle.job.specs.Solved.{solution_printable, solution_printed}
+use Rattle.job.specs.Solved.{solution_printed}
 use Rattle.job.proofs.answer.Goals as goal
 
-pub slice_bounds-print-end : goal.slice_bounds-print-end
-slice_bounds-print-end c = sym (length-take-le _ _ c.solve-solved.ensures.fits)
+pub returns-in-Ok : goal.returns-in-Ok
+returns-in-Ok c = solution_printed c.in-Ok.ensures c.print.ensures
 
-pub print-requires : goal.print-requires
-print-requires c = solution_printable c.solve-solved.ensures
-
-pub returns : goal.returns
-returns c = solution_printed c.solve-solved.ensures c.print.ensures
+pub returns-in-Err : goal.returns-in-Err
+returns-in-Err c = solution_printed c.in-Err.ensures (rw c.into.ensures at c.print-in-Err.ensures)

@@ -1,5 +1,4 @@
 -- `job::compose_file` meets its contract. Assumes nothing.
-use borrow.Author.Rules.{rules}
 use lib.Seq.{length-take-le}
 use mathlib.Core.Path.{sym}
 use Rattle.definition.specs.Job.{inner, outer}

@@ -1,10 +1,17 @@
--- `job::print` meets its contract. Assumes nothing.
+-- `job::print` meets its contract: rendering accepts the answer. Assumes nothing.
 use borrow.Author.Rules.{rules}
-use native.Mathlib.Omega.{arith}
+use Rattle.std.proofs.Common.{ℕ, arith, ◌≡◌, refl, Ok, Err, Result}
+use Rattle.std.specs.Result.{result_unwrap_or}
+use Rattle.reason.specs.declared.Refusal.{Refusal}
+use Rattle.reason.specs.Numbers.{value}
 use Rattle.job.specs.Solved.{printed}
 use Rattle.job.proofs.print.Goals as goal
 
+valued : (rendered : Result ℕ Refusal) → result_unwrap_or rendered 0 ≡ value rendered
+valued (Ok count) = refl
+valued (Err refusal) = refl
+
 pub returns : goal.returns
 returns c =
-    let size = c.render-arg-1.given.0.1 in
-    printed c.requires (search rules) (search rules) (λ i. omega (arith, c.shared_slice_known-1.given i)) size c.render-answer.ensures
+    rw (c.unwrap_or.ensures, valued c.render.result)
+    (printed c.requires (search rules) (search rules) (λ i. omega (arith, c.type_inv.list i)) c.told-text c.render.ensures)
