@@ -7,7 +7,7 @@ ghost use Rattle.std.specs.Prelude.{◌≤◌, length, IfOk};
 use std::io;
 use std::io::{Read, Write};
 
-// Reads until the input ends or `file` is full: the count of bytes.
+// Reads until the input ends or `file` is full: the count of bytes. The library's methods that read to the end want a Vec; this memory is fixed.
 fn read_input(input: &mut impl Read, file: &mut [u8]) -> io::Result<usize>
     ensures { IfOk result (λ count. count ≤ length file.new) }
 {
