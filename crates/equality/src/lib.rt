@@ -1,5 +1,8 @@
 // When two answers are equal (demand 3): two calls, each of compose or of a cycle, each with its own buffers, made one after the other,
 // and the claim about what they leave. The claim and its proof for any two calls stand in the crate `two_calls`.
+//
+// The three functions stay apart. One over a trait of calls would need a struct for each kind that holds the lent buffers, and clauses that it
+// still holds them, and could not state what each call promises of its own buffers, as the three do.
 #![tactic(auto)]
 
 ghost use Rattle.chain.specs.Record.{recorded};
