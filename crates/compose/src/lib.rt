@@ -1,4 +1,5 @@
-// The call compose: f(g) modulo x^n by the route named, or a refusal.
+// The call compose: f(g) modulo x^n by the route named, or a refusal. Its numbers, lists and buffers stay parameters, one by one: so C passes
+// them, and so the promise `Compose` names them.
 #![tactic(auto)]
 
 ghost use Rattle.std.specs.Prelude.{◌≡◌, length, ◌<◌, ◌≤◌};
@@ -16,7 +17,8 @@ use reason::Refusal;
 // The block length of route 2 where a call names none.
 pub const BLOCK_LENGTH: usize = 4;
 
-// The route of this number, route 2 in blocks of b places: f(g) modulo x^n, at place 0 of w.
+// The route of this number, route 2 in blocks of b places: f(g) modulo x^n, at place 0 of w. The route is a number and no enum: the contract
+// takes every number, and `weight` gives those that name no route the fourth's.
 pub fn run(route: u32, b: usize, p: u32, n: usize, f: &[u32], g: &[u32], w: &mut [u32]) -> Weight
     requires { Lent p n (length f.now) (length w.old) × Prime p × (route ≡ 2 → (0 < b) × (b ≤ longest_block)) }
     ensures { Route p n f.now g.now (weight route b p n (length f.now))
