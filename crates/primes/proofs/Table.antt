@@ -5,8 +5,10 @@
 --   table-rule      the rule of the table
 --   table-only      a list that keeps the rule is this one
 --   member-prime    a number of the table is prime
+--   member_written  the entries of the table are the sixteen
 -- Assumes nothing.
-use Rattle.std.specs.Prelude.{ℕ, suc, ◌*◌, ◌<◌, ◌≤◌, get_or, true, List, ◌∷◌, ◌≡◌, refl}
+use Rattle.std.specs.Prelude.{ℕ, suc, ◌*◌, ◌<◌, ◌≤◌, ◌==◌, get_or, true, List, ◌∷◌, ◌≡◌, refl}
+use Rattle.std.specs.List.{list_any}
 use Rattle.std.proofs.Common.{lit≤, arith}
 use Rattle.definition.specs.Prime.{Prime}
 use Rattle.definition.specs.PrimeTable.{TableRule, table_bound, prime_table}
@@ -67,3 +69,7 @@ table-only t rule = table-rule_determined rule written
 
 pub member-prime : (p : ℕ) → member p prime_table ≡ true → Prime p
 member-prime = member-holds Prime prime_table (λ i l. table-rule.prime i (omega (arith, table-rule.sixteen)))
+
+pub member_written : (p : ℕ) → member p prime_table ≡ list_any (λ q. q == p) table
+unfolding member table
+member_written p = rw table-written

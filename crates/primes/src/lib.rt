@@ -23,6 +23,7 @@ pub fn prime(index: u32) -> Result<u32, Refusal>
 }
 
 // Whether `p` is an entry of the table.
+#[tactic(auto, using(crate::proofs::Table::member_written), unfolding(crate::specs::Table::table))]
 pub fn in_table(p: u32) -> bool
     ensures { result ≡ member p prime_table }
 {

@@ -16,7 +16,7 @@ ghost use Rattle.reason.specs.Numbers.{number};
 ghost use Rattle.refusal_tests.specs.Tests.{list_tests};
 
 use reason::{Refusal, refuse_if};
-use refusal_tests::{coefficients, either_has_constant, field, irreversible, routed, short_work};
+use refusal_tests::{either_exceeds, either_has_constant, field, irreversible, routed, short_work};
 use route::{LIMIT, WORK_PER_COEFFICIENT, WORK_PER_POWER};
 
 // The places of work of a cycle for each power of x below the order. For each coefficient of its list they are those of a composition.
@@ -51,8 +51,7 @@ pub fn compose(
     refuse_if(g.len() > LIMIT, Refusal::InnerLength)?;
     refuse_if(places != n, Refusal::Places)?;
     refuse_if(short_work(WORK_PER_POWER, n, f.len(), work), Refusal::Work)?;
-    coefficients(p, f)?;
-    coefficients(p, g)
+    refuse_if(either_exceeds(p, f, g), Refusal::Coefficient)
 }
 
 // The tests of reverse for the series g, an output of `places` places and `work` places of work.
@@ -63,7 +62,7 @@ pub fn reverse(p: u32, n: usize, g: &[u32], places: usize, work: usize) -> Resul
     refuse_if(g.len() > LIMIT, Refusal::InnerLength)?;
     refuse_if(places != n, Refusal::Places)?;
     refuse_if(short_work(WORK_PER_POWER, n, g.len(), work), Refusal::Work)?;
-    coefficients(p, g)?;
+    refuse_if(buffer::exceeds(g, p), Refusal::Coefficient)?;
     refuse_if(irreversible(n, g), Refusal::Irreversible)
 }
 
@@ -95,8 +94,7 @@ pub fn cycle(
         short_work(CYCLE_WORK_PER_POWER, n, c.len(), work),
         Refusal::Work,
     )?;
-    coefficients(p, c)?;
-    coefficients(p, s)?;
+    refuse_if(either_exceeds(p, c, s), Refusal::Coefficient)?;
     refuse_if(either_has_constant(c, s), Refusal::Constant)?;
     refuse_if(done >= MOST_CYCLES, Refusal::Cycles)
 }

@@ -48,6 +48,13 @@ pub fn irreversible(n: usize, g: &[u32]) -> bool
     route::place(g, 0) != 0 || n > 1 && route::place(g, 1) == 0
 }
 
+// Whether a coefficient of one of two lists is p or more.
+pub fn either_exceeds(p: u32, a: &[u32], b: &[u32]) -> bool
+    ensures { result ≡ (exceeds p a.now || exceeds p b.now) }
+{
+    buffer::exceeds(a, p) || buffer::exceeds(b, p)
+}
+
 // Whether the constant term of one of two lists is not zero.
 pub fn either_has_constant(a: &[u32], b: &[u32]) -> bool
     ensures { result ≡ (has_constant a.now || has_constant b.now) }
@@ -61,13 +68,6 @@ pub fn short_work(factor: usize, n: usize, m: usize, work: usize) -> bool
     ensures { result ≡ ltb work (work_places factor n m) }
 {
     work / factor < n || (work - factor * n) / WORK_PER_COEFFICIENT < m
-}
-
-// The test of a list's coefficients.
-pub fn coefficients(p: u32, l: &[u32]) -> Result<(), Refusal>
-    ensures { number result ≡ first (test 8 (exceeds p l.now) ∷ []) }
-{
-    refuse_if(buffer::exceeds(l, p), Refusal::Coefficient)
 }
 
 // The tests of modulus and order.
