@@ -1,5 +1,5 @@
-// Chains of cycles: a record of modulus, order and cycles done, and the calls that open it and carry out a cycle. The running series stands
-// in a buffer that the caller lends.
+// Chains of cycles: a record of modulus, order and cycles done, by value, and the calls that open it and carry out a cycle. The running
+// series stands in a buffer that the caller lends.
 #![tactic(auto)]
 
 ghost use Rattle.std.specs.Prelude.{◌≡◌, length};
@@ -19,6 +19,13 @@ pub struct Chain {
     pub modulus: u32,
     pub order: usize,
     pub done: u32,
+}
+
+// What a cycle gives: the next record, which is the same where the cycle is refused, and the weight of the route.
+#[derive(Clone, Copy)]
+pub struct Cycled {
+    pub chain: Chain,
+    pub weight: Result<u64, Refusal>,
 }
 
 // The whole buffer becomes x modulo x^n, n being its count.
@@ -43,9 +50,8 @@ impl Chain {
         })
     }
 
-    // A cycle: the running series S becomes S(C) modulo x^n by the route named, C being the list, so that the earliest cycle is outermost.
-    // Route 2 takes blocks of b places. It answers the weight of the route.
-    pub fn cycle_blocks(
+    // A cycle on the record as it stands. It answers the weight of the route.
+    fn carry_out(
         &mut self,
         route: u32,
         b: usize,
@@ -65,16 +71,30 @@ impl Chain {
         Ok(weight)
     }
 
-    // The same, in blocks of the length where none is named.
-    pub fn cycle(
-        &mut self,
+    // A cycle: the running series S becomes S(C) modulo x^n by the route named, C being the list, so that the earliest cycle is outermost.
+    // Route 2 takes blocks of b places.
+    pub fn cycle_blocks(
+        mut self,
         route: u32,
+        b: usize,
         list: &[u32],
         running: &mut [u32],
         work: &mut [u32],
-    ) -> Result<u64, Refusal>
-        ensures { Cycle route block_length (recorded self.old) list.now running.old running.new
-            work.old work.new (number result) (value result) (recorded self.new) }
+    ) -> Cycled
+        ensures { Cycle route b (recorded self) list.now running.old running.new
+            work.old work.new (number result.weight) (value result.weight) (recorded result.chain) }
+    {
+        let weight = self.carry_out(route, b, list, running, work);
+        Cycled {
+            chain: self,
+            weight,
+        }
+    }
+
+    // The same, in blocks of the length where none is named.
+    pub fn cycle(self, route: u32, list: &[u32], running: &mut [u32], work: &mut [u32]) -> Cycled
+        ensures { Cycle route block_length (recorded self) list.now running.old running.new
+            work.old work.new (number result.weight) (value result.weight) (recorded result.chain) }
     {
         self.cycle_blocks(route, compose::BLOCK_LENGTH, list, running, work)
     }

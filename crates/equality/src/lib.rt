@@ -10,7 +10,7 @@ ghost use Rattle.definition.specs.Calls.{Compose, Cycle};
 ghost use Rattle.reason.specs.Numbers.{number, value};
 ghost use Rattle.two_calls.specs.TwoCalls.{Equality};
 
-use chain::Chain;
+use chain::{Chain, Cycled};
 use reason::Refusal;
 
 // Two calls of compose.
@@ -54,19 +54,19 @@ pub fn compose_and_cycle(
     g1: &[u32],
     out1: &mut [u32],
     work1: &mut [u32],
-    chain2: &mut Chain,
+    chain2: Chain,
     route2: u32,
     b2: usize,
     list2: &[u32],
     running2: &mut [u32],
     work2: &mut [u32],
-) -> (Result<u64, Refusal>, Result<u64, Refusal>)
+) -> (Result<u64, Refusal>, Cycled)
     ensures compose { Compose route1 b1 p1 n1 f1.now g1.now out1.old out1.new
         work1.old work1.new (number result.0) (value result.0) }
-    ensures cycle { Cycle route2 b2 (recorded chain2.old) list2.now running2.old running2.new
-        work2.old work2.new (number result.1) (value result.1) (recorded chain2.new) }
+    ensures cycle { Cycle route2 b2 (recorded chain2) list2.now running2.old running2.new
+        work2.old work2.new (number result.1.weight) (value result.1.weight) (recorded result.1.chain) }
     ensures equality { Equality (number result.0) p1 n1 f1.now g1.now out1.new
-        (number result.1) chain2.old.modulus chain2.old.order
+        (number result.1.weight) chain2.modulus chain2.order
         running2.old list2.now running2.new }
 {
     let first = compose::compose_blocks(route1, b1, p1, n1, f1, g1, out1, work1);
@@ -76,26 +76,26 @@ pub fn compose_and_cycle(
 
 // Two cycles, each of a chain of its own.
 pub fn cycle_and_cycle(
-    chain1: &mut Chain,
+    chain1: Chain,
     route1: u32,
     b1: usize,
     list1: &[u32],
     running1: &mut [u32],
     work1: &mut [u32],
-    chain2: &mut Chain,
+    chain2: Chain,
     route2: u32,
     b2: usize,
     list2: &[u32],
     running2: &mut [u32],
     work2: &mut [u32],
-) -> (Result<u64, Refusal>, Result<u64, Refusal>)
-    ensures cycle { Cycle route1 b1 (recorded chain1.old) list1.now running1.old running1.new
-        work1.old work1.new (number result.0) (value result.0) (recorded chain1.new) }
-    ensures cycle_2 { Cycle route2 b2 (recorded chain2.old) list2.now running2.old running2.new
-        work2.old work2.new (number result.1) (value result.1) (recorded chain2.new) }
-    ensures equality { Equality (number result.0) chain1.old.modulus chain1.old.order
+) -> (Cycled, Cycled)
+    ensures cycle { Cycle route1 b1 (recorded chain1) list1.now running1.old running1.new
+        work1.old work1.new (number result.0.weight) (value result.0.weight) (recorded result.0.chain) }
+    ensures cycle_2 { Cycle route2 b2 (recorded chain2) list2.now running2.old running2.new
+        work2.old work2.new (number result.1.weight) (value result.1.weight) (recorded result.1.chain) }
+    ensures equality { Equality (number result.0.weight) chain1.modulus chain1.order
         running1.old list1.now running1.new
-        (number result.1) chain2.old.modulus chain2.old.order
+        (number result.1.weight) chain2.modulus chain2.order
         running2.old list2.now running2.new }
 {
     let first = chain1.cycle_blocks(route1, b1, list1, running1, work1);

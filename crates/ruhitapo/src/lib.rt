@@ -188,16 +188,17 @@ pub extern "C" fn ruhitapo_cycle_blocks_numbers(
         running.old running.new work.old work.new
         result.number result.weight (recorded result.chain) }
 {
-    let mut chain = Chain {
+    let chain = Chain {
         modulus,
         order,
         done,
     };
-    let answer: Answer = chain.cycle_blocks(route, block, list, running, work).into();
+    let cycled = chain.cycle_blocks(route, block, list, running, work);
+    let answer: Answer = cycled.weight.into();
     Cycled {
         number: answer.number,
         weight: answer.weight,
-        chain,
+        chain: cycled.chain,
     }
 }
 

@@ -7,4 +7,4 @@ returns c =
     let reversed = c.reverse-reversed.ensures in
     let cycled = c.cycle_blocks-cycled.ensures in
     let undone = c.cycle_blocks-undone.ensures in
-    record { calls = (_, _, _, _, reversed, cycled, undone); running_unchanged = reverse-undone reversed cycled undone }
+    record { calls = (_, _, _, reversed, cycled, undone); running_unchanged = reverse-undone reversed cycled undone }

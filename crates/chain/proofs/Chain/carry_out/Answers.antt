@@ -1,12 +1,12 @@
--- `chain::Chain::cycle_blocks` meets its contract. Assumes nothing.
+-- `chain::Chain::carry_out` meets its contract. Assumes nothing.
 use Rattle.std.proofs.Common.{arith, length, refl, sym}
 use Rattle.std.proofs.lemmas.Result.{err_from_is_err_and}
 use Rattle.chain.specs.Answered.{cycle-accepted, cycle-refused}
 use Rattle.chain.specs.Record.{recorded}
 use Rattle.reason.specs.Numbers.{refused}
 use Rattle.refusal.specs.Bounds.{CycleBounds, cycle-bounds, field-lent}
-use Rattle.chain.proofs.Chain.cycle_blocks.Goals as goal
-use Rattle.chain.proofs.Chain.cycle_blocks.Goals.{In_ok-cycle}
+use Rattle.chain.proofs.Chain.carry_out.Goals as goal
+use Rattle.chain.proofs.Chain.carry_out.Goals.{In_ok-cycle}
 
 -- what an accepted call tells
 bounds : (c : In_ok-cycle) → CycleBounds c.args.route c.args.b (recorded c.args.self.now) c.args.list.now c.args.running.now
