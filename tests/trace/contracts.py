@@ -15,12 +15,29 @@ def heads(file):
     return [" ".join(head.split()) for head in re.findall(r"^ *(pub (?:extern \"C\" )?fn .*?)^ *\{$", text, re.M | re.S)]
 
 
+def result(head):
+    """The type after the parameters of a function, or nothing: an arrow in the bound of a type parameter is none of the function's."""
+    signature = re.split(r" (?:requires|ensures)\b", head)[0]
+    at, depth = signature.index("("), 0
+    bounds = re.search(r"fn \w+<", signature)
+    if bounds:
+        at, depth = bounds.end(), 1
+        while depth:
+            depth += {"<": 1, ">": -1}.get(signature[at], 0) if signature[at - 1:at + 1] != "->" else 0
+            at += 1
+    while True:
+        depth += {"(": 1, ")": -1}.get(signature[at], 0)
+        at += 1
+        if not depth:
+            return signature[at:].partition("->")[2].strip()
+
+
 def faults(head):
     name = re.search(r"fn (\w+)", head).group(1)
     ensured = head.partition(" ensures ")[2]
     if not ensured:
         yield f"{name} ensures nothing"
-    elif "->" in head.split("requires")[0].split("ensures")[0] and not re.search(r"\bresult\b", ensured):
+    elif result(head) and not re.search(r"\bresult\b", ensured):
         yield f"{name} gives a result that its contract does not name"
     if 'extern "C"' in head and "requires" in head:
         yield f"{name} is called from C and requires something"
