@@ -4,6 +4,8 @@
 --   Printed l at text text' next   `next` is the place after l, printed from place `at` on, and where text has room, l is written there
 --   printed-append                 two lists printed one after the other are one
 --   printed_written                where there is room
+--   written-append                 two lists written one after the other are one
+--   room                           where there is room for two lists, the first leaves room for the second
 -- Assumes nothing.
 use Rattle.std.specs.Prelude.{ℕ, ◌+◌, ◌≤◌, List, ◌++◌, ◌≡◌, length}
 use Rattle.std.proofs.Common.{add_assoc, arith, sym, ◌∙◌, length-append}
@@ -30,3 +32,14 @@ printed-append {at} {next} l m {text} {text'} first then = record {
 
 pub printed_written : {at next : ℕ} {l text text' : List ℕ} → Printed l at text text' next → next ≤ length text → Written l at text text' next
 printed_written printed room = record { holds = printed.holds room; ends = printed.ends }
+
+pub written-append : {at next next' : ℕ} (l m : List ℕ) {text text' text'' : List ℕ} → Written l at text text' next → Written m next text' text'' next'
+    → Written (l ++ m) at text text'' next'
+written-append {at} l m first then = record {
+  holds = then.holds ∙ rw (first.holds, first.ends) (sym (sets-append _ at l m));
+  ends = then.ends ∙ rw (first.ends, length-append, add_assoc);
+}
+
+pub room : {at next : ℕ} (l m : List ℕ) {text text' : List ℕ} → Written l at text text' next → at + length (l ++ m) ≤ length text
+    → next + length m ≤ length text'
+room {at} l m {text} first fits = rw (first.holds, first.ends, length-sets) (omega (arith, length-append l m))

@@ -3,14 +3,14 @@
 --   number_of, modulus_of     the number and the modulus that an answer stands for
 --   field_refusal p          the number that opening a field of modulus p returns
 --   Opening p answer        the contract of `Field::new`
---   opening-refused, opening_taken        the contract holds of the two answers
+--   opening-refused, opening_taken        the contract holds of the two answers (opening_of, of a field)
 --   refused-modulus, taken_modulus        what the two answers tell of the modulus
 --   good_modulus            a modulus that is not refused is a prime up to the largest modulus
 --   prime_taken             and every such prime is not refused
 -- Assumes nothing.
-use Rattle.std.specs.Prelude.{ℕ, Option, Some, None, ◌≤◌, ltb, Bool, true, false, cond, not, ◌||◌, [], ◌∷◌, ◌≡◌, refl}
+use Rattle.std.specs.Prelude.{ℕ, Option, Some, None, ◌<◌, ◌≤◌, ltb, Bool, true, false, cond, not, ◌||◌, [], ◌∷◌, ◌≡◌, refl}
 use Rattle.std.proofs.Common.{le-ltb, ltb-false, true≢false, arith}
-use Rattle.algebra.specs.Prime.{is_prime_true, prime_of_test}
+use Rattle.algebra.specs.Prime.{is_prime_true, prime-positive, prime_of_test}
 use Rattle.definition.specs.Answer.{answered}
 use Rattle.definition.specs.Prime.{Prime, is_prime, largest_modulus}
 use Rattle.definition.specs.Refusal.{bad_modulus, first, test}
@@ -34,10 +34,6 @@ pub record Opening (p : ℕ) (answer : Option Field) : Type 0 where
 pub opening-refused : (p : ℕ) → bad_modulus p ≡ true → Opening p None
 unfolding number_of modulus_of field_refusal first test answered
 opening-refused p bad = record { number = rw bad; modulus = rw bad }
-
-pub opening_taken : (f : Field) → bad_modulus f.modulus ≡ false → Opening f.modulus (Some f)
-unfolding number_of modulus_of field_refusal first test answered
-opening_taken f good = record { number = rw good; modulus = rw good }
 
 pub refused-modulus : (p : ℕ) → Opening p None → bad_modulus p ≡ true
 unfolding number_of field_refusal first test
@@ -68,3 +64,10 @@ good_modulus p good = go (ltb largest_modulus p) (is_prime p) refl refl good
 pub prime_taken : (p : ℕ) → Prime p → p ≤ largest_modulus → bad_modulus p ≡ false
 unfolding bad_modulus
 prime_taken p prime within = rw (le-ltb largest_modulus p within, is_prime_true prime)
+
+pub opening_of : (f : Field) → bad_modulus f.modulus ≡ false → Opening f.modulus (Some f)
+unfolding number_of modulus_of field_refusal first test answered
+opening_of f good = record { number = rw good; modulus = rw good }
+
+pub opening_taken : (p : ℕ) → (good : bad_modulus p ≡ false) → Opening p (Some (record { modulus = p; positive = prime-positive (good_modulus p good).0 }))
+opening_taken p good = opening_of _ good

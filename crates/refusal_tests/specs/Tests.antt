@@ -2,17 +2,24 @@
 --
 --   field_tests routed_tests   the tests that many calls begin with
 --   list_tests                the tests that rendering makes of order and list
+--   number_after earlier ts   the number of the tests ts where those before them have the number `earlier`
 --   absent r ts              no test of the list has the number r
 --   Passed ts                no test of the list fires
+--   after_earlier after-fired after-passed   one further test: an earlier one fired, or it fires, or it does not
+--   told                     one further test, by what the function answers that makes it
+--   followed                 a list, and then further tests
+--   routed_told              the tests that calls with a route begin with, by what the functions answer that make them
+--   either                   two tests of one number that follow each other are one
 --   passed                   the first k tests did not fire, where none of them has the number of the list
 --   first-passed             the number of a list of which no test fires
 --   first-same               what follows a list of tests counts only where no test of the list fires
 --   fired                    a last test whose number is the number of the list fired
+--   factor-fits short-factor short-rest   the test of the places of work, in steps that fit a word
 --   either_false             of two tests that are one, neither fired
 --   places-equal route-within block_within order-within length-within constant-zero   what tests tell that did not fire
 -- Assumes nothing.
-use Rattle.std.specs.Prelude.{ℕ, zero, suc, ◌<◌, ◌≤◌, eqb, ltb, length, take, drop, Bool, true, false, cond, not, ◌&&◌, ◌||◌, List, [], ◌∷◌, ◌++◌, ◌≢◌, ◌≡◌, refl}
-use Rattle.std.proofs.Common.{arith, eqb-true, ltb-false, true≢false, sym}
+use Rattle.std.specs.Prelude.{ℕ, zero, suc, ◌+◌, ◌-◌, ◌*◌, ◌/◌, ◌<◌, ◌≤◌, eqb, ltb, length, take, drop, Bool, true, false, cond, not, ◌&&◌, ◌||◌, List, [], ◌∷◌, ◌++◌, ◌≢◌, ◌≡◌, refl}
+use Rattle.std.proofs.Common.{div-lt_iff_lt-mul, le-div_iff_mul-le, mul_comm, arith, eqb-true, le-ltb, lt-ltb, ltb-false, ltb-true, true≢false, sym, ◌∙◌}
 use Rattle.std.proofs.lemmas.Bool.{eqb-false, not-false}
 use Rattle.definition.specs.Lists.{coefficient}
 use Rattle.definition.specs.Refusal.{Test, bad_block, bad_modulus, bad_order, bad_route, first, has_constant, limit, longest_block, not_places, test, too_long}
@@ -26,6 +33,10 @@ routed_tests route b p n = test 1 (bad_route route) ∷ test 15 (bad_block route
 abbrev pub list_tests : ℕ → ℕ → ℕ → List Test
 list_tests number n places = test 3 (eqb number 0 && bad_order n) ∷ test 6 (eqb number 0 && not_places n places) ∷ []
 
+unfoldable pub number_after : ℕ → List Test → ℕ
+number_after zero ts = first ts
+number_after (suc earlier) ts = suc earlier
+
 unfoldable pub absent : ℕ → List Test → Bool
 absent r [] = true
 absent r (t ∷ ts) = not (eqb t.number r) && absent r ts
@@ -37,6 +48,50 @@ Passed (t ∷ ts) = (t.fires ≡ false) × Passed ts
 absent_cons : {a b : Bool} → (not a && b) ≡ true → (a ≡ false) × (b ≡ true)
 absent_cons {a = true} h = absurd (true≢false (sym h))
 absent_cons {a = false} h = (refl, h)
+
+pub after_earlier : (earlier : ℕ) (ts : List Test) → earlier ≢ 0 → earlier ≡ number_after earlier ts
+unfolding number_after
+after_earlier zero ts h = absurd (h refl)
+after_earlier (suc earlier) ts h = refl
+
+pub after-fired : {earlier : ℕ} (own : ℕ) {b : Bool} → earlier ≡ 0 → b ≡ true → own ≡ number_after earlier (test own b ∷ [])
+unfolding number_after first test
+after-fired own z e = rw (z, e)
+
+pub after-passed : {earlier : ℕ} (own : ℕ) {b : Bool} → earlier ≡ 0 → b ≡ false → 0 ≡ number_after earlier (test own b ∷ [])
+unfolding number_after first test
+after-passed own z e = rw (z, e)
+
+pub told : (own earlier : ℕ) {answer b : Bool} {r : ℕ} → answer ≡ b → r ≡ number_after earlier (test own answer ∷ [])
+    → r ≡ number_after earlier (test own b ∷ [])
+told own earlier e h = rw (← e) h
+
+first-append : (ts us : List Test) → absent 0 ts ≡ true → number_after (first ts) us ≡ first (ts ++ us)
+unfolding absent number_after first
+first-append [] us none = refl
+first-append (t ∷ ts) us none =
+    let (other, rest) = absent_cons none in
+    step t.fires (eqb-false t.number 0 other) (first-append ts us rest)
+  where
+    step : (b : Bool) → t.number ≢ 0 → number_after (first ts) us ≡ first (ts ++ us)
+        → number_after (cond b t.number (first ts)) us ≡ cond b t.number (first (ts ++ us))
+    step true other rest = sym (after_earlier t.number us other)
+    step false other rest = rest
+
+pub followed : (ts us : List Test) {earlier r : ℕ} → earlier ≡ first ts → r ≡ number_after earlier us → absent 0 ts ≡ true → r ≡ first (ts ++ us)
+followed ts us e h none = h ∙ rw e (first-append ts us none)
+
+-- the tests of route, block length, modulus and order, by what the functions answer that make three of them
+pub routed_told : (route b p n : ℕ) {k : ℕ} {unknown unfit outside : Bool} → unknown ≡ bad_route route → unfit ≡ bad_block route b → outside ≡ bad_order n
+    → k ≡ first (test 1 unknown ∷ test 15 unfit ∷ test 2 (bad_modulus p) ∷ test 3 outside ∷ []) → k ≡ first (routed_tests route b p n)
+routed_told route b p n e f g h = rw (← e, ← f, ← g) h
+
+pub either : (own : ℕ) (a b : Bool) (earlier : ℕ) {k r : ℕ} → k ≡ number_after earlier (test own a ∷ []) → r ≡ number_after k (test own b ∷ []) → own ≢ 0
+    → r ≡ number_after earlier (test own (a || b) ∷ [])
+unfolding number_after first test
+either own a b (suc earlier) h g other = rw h at g
+either own true b zero h g other = (rw h at g) ∙ sym (after_earlier own (test own b ∷ []) other)
+either own false b zero h g other = rw h at g
 
 pub passed : (k : ℕ) (ts : List Test) {r : ℕ} → first ts ≡ r → absent r (take k ts) ≡ true → Passed (take k ts) × (first (drop k ts) ≡ r)
 unfolding absent first Passed
@@ -70,6 +125,22 @@ pub fired : (n : ℕ) (b : Bool) → eqb 0 n ≡ false → first (test n b ∷ [
 unfolding first test
 fired n true positive h = refl
 fired n false positive h = absurd (eqb-false 0 n positive h)
+
+module _ (factor n work : ℕ) (positive : 0 < factor) where
+  pub factor-fits : n ≤ work / factor → factor * n ≤ work
+  factor-fits h = rw mul_comm ((le-div_iff_mul-le positive).0 h)
+
+  pub short-factor : (m : ℕ) → work / factor < n → ltb work (factor * n + 8 * m) ≡ true
+  short-factor m h =
+      let above : work < factor * n = rw mul_comm ((div-lt_iff_lt-mul positive).0 h) in
+      lt-ltb work _ (omega arith)
+
+pub short-rest : (k m work : ℕ) → k ≤ work → ltb ((work - k) / 8) m ≡ ltb work (k + 8 * m)
+short-rest k m work h = go (ltb ((work - k) / 8) m) refl
+  where
+    go : (b : Bool) → ltb ((work - k) / 8) m ≡ b → b ≡ ltb work (k + 8 * m)
+    go true e = sym (lt-ltb work (k + 8 * m) (omega (arith, ltb-true ((work - k) / 8) m e)))
+    go false e = sym (le-ltb work (k + 8 * m) (omega (arith, ltb-false ((work - k) / 8) m e)))
 
 pub places-equal : (n places : ℕ) → not_places n places ≡ false → places ≡ n
 unfolding not_places

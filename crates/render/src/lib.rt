@@ -1,8 +1,9 @@
-// The call render: the printed answer, measured and then written into the lent text buffer.
+// The call render: the printed answer, written into the lent text buffer; where that might be too short the answer is measured first.
 #![tactic(auto)]
 
-ghost use Rattle.std.specs.Prelude.{length};
+ghost use Rattle.std.specs.Prelude.{length, ◌≡◌, ◌≢◌, ◌≤◌, ◌+◌, ◌*◌};
 ghost use Rattle.definition.specs.Calls.{Render};
+ghost use Rattle.definition.specs.Refusal.{limit, render_refusal};
 ghost use Rattle.definition.specs.Text.{rendered};
 ghost use Rattle.decimal.specs.Writing.{Printed};
 ghost use Rattle.reason.specs.Numbers.{number, value};
@@ -22,6 +23,28 @@ fn write_rendered(answer: u32, n: usize, weight: u64, list: &[u32], text: &mut [
     }
 }
 
+// The bytes of the longest text of an answer of this number with so many coefficients.
+fn longest(answer: u32, places: usize) -> usize
+    requires { answer ≡ 0 → places ≤ limit }
+    ensures accepted { answer ≡ 0 → result ≡ 29 + 11 * places }
+    ensures refused { answer ≢ 0 → result ≡ 14 }
+{
+    if answer == 0 { 29 + 11 * places } else { 14 }
+}
+
+// Tests whether the answer has room in a text of so many bytes. Only a text that has none for the longest answer is measured against this one.
+fn fits(answer: u32, n: usize, weight: u64, list: &[u32], room: usize) -> Result<(), Refusal>
+    requires { Passed (list_tests answer n (length list.now)) }
+    ensures { number result
+        ≡ render_refusal answer n (length list.now) (length (rendered answer n weight list.now)) room }
+{
+    if longest(answer, list.len()) <= room {
+        return Ok(());
+    }
+    let places = write_rendered(answer, n, weight, list, &mut []);
+    refusal::render(answer, n, list.len(), places, room)
+}
+
 // The printed form of a refusal number, or of 0 with order, weight and coefficients, from place 0 of `text` on; the count of its bytes. The
 // number is C's, and any number is rendered: so it is no Refusal.
 pub fn render(
@@ -34,7 +57,6 @@ pub fn render(
     ensures { Render answer n weight list.now text.old text.new (number result) (value result) }
 {
     refusal::list(answer, n, list.len())?;
-    let places = write_rendered(answer, n, weight, list, &mut []);
-    refusal::render(answer, n, list.len(), places, text.len())?;
+    fits(answer, n, weight, list, text.len())?;
     Ok(write_rendered(answer, n, weight, list, text))
 }

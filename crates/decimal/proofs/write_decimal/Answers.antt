@@ -1,17 +1,10 @@
 -- `decimal::write_decimal` meets its contract. Assumes nothing.
-use Rattle.std.proofs.Common.{arith, ap, ◌≡◌, ◌∙◌, sym}
-use Rattle.std.proofs.Math.ListN.{length}
-use Rattle.definition.specs.Text.{decimal}
-use Rattle.decimal.specs.Digits.{decimal-printed}
+use Rattle.std.proofs.Common.{arith, ap, length}
+use Rattle.decimal.specs.Digits.{decimal_digit}
 use Rattle.decimal.proofs.write_decimal.Goals as goal
-use Rattle.decimal.proofs.write_decimal.Goals.{After-as_bytes}
 
--- what the library printed
-digits : (c : After-as_bytes) → c.as_bytes.result.now ≡ decimal c.args.v
-digits c = c.as_bytes.ensures.value ∙ c.format.ensures.text ∙ sym (decimal-printed c.args.v (omega arith))
+pub write_digit-requires : goal.write_digit-requires
+write_digit-requires c = omega (arith, c.requires, ap length (decimal_digit c.args.v c.if-v-lt10.true))
 
-pub write_bytes-requires : goal.write_bytes-requires
-write_bytes-requires c = omega (arith, c.requires, ap length (digits (goal.at.write_bytes-requires c).After-as_bytes))
-
-pub returns : goal.returns
-returns c = rw (← digits (goal.at.returns c).After-as_bytes) c.write_bytes.ensures
+pub returns-then-v-lt10 : goal.returns-then-v-lt10
+returns-then-v-lt10 c = rw (decimal_digit _ c.if-v-lt10.true) c.write_digit.ensures

@@ -6,7 +6,7 @@ use Prim.Native.Nat.{◌<◌, ◌≤◌}
 use Rattle.algebra.specs.Prime.{prime-positive, prime_of_test}
 use Rattle.definition.specs.Prime.{largest_modulus}
 use Rattle.definition.specs.Refusal.{bad_modulus}
-use Rattle.field.specs.Opening.{opening-refused, opening_taken}
+use Rattle.field.specs.Opening.{opening-refused, opening_of}
 use Rattle.field.proofs.Field.new.Goals.{else-p-le-LARGEST-via-then-p-le-LARGEST+else-is_prime, else-p-le-LARGEST-via-else-p-le-LARGEST}
 use Rattle.field.proofs.Field.new.Goals as goal
 
@@ -17,7 +17,7 @@ pub returns-then-is_prime : goal.returns-then-is_prime
 unfolding bad_modulus largest_modulus
 returns-then-is_prime c =
     let within : c.args.p ≤ largest_modulus = omega (arith, c.if-p-le-LARGEST.true) in
-    opening_taken _ (rw (le-ltb _ _ within, ← c.is_prime.ensures, c.if-is_prime.true))
+    opening_of _ (rw (le-ltb _ _ within, ← c.is_prime.ensures, c.if-is_prime.true))
 
 pub returns-else-p-le-LARGEST : goal.returns-else-p-le-LARGEST
 unfolding bad_modulus largest_modulus
